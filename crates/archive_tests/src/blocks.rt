@@ -5,7 +5,7 @@ use crate::reports::settled;
 use capture_core::Types;
 use devices::{DeviceFault, FromFile, FromRead, Fuse, Gather, Input, Slice, SystemFile};
 use fixtures::{Refused, joined, repeated};
-use index_core::{Indexer, get, list};
+use index_core::{Fetch, Indexer, PlainArchive, list};
 use std::alloc::{AllocError, Global};
 use std::fs::{self, File, Files};
 use std::io::Cursor;
@@ -97,25 +97,25 @@ impl<I: Input> Input for Counted<I> {
 /// Returns `true` if the listing is these lines, with this result.
 fn lists<I: Input>(
     alloc: Global,
-    input: &mut I,
+    archive: &mut PlainArchive<I>,
     lines: &[u8],
     wanted: Result<u64, Fault>,
 ) -> Result<bool, Refused> {
     let mut out = Gather::new(alloc);
-    let answer = settled(list(alloc, input, &mut out))?;
+    let answer = settled(list(archive, &mut out))?;
     Ok(answer == wanted && out.bytes() == lines)
 }
 
 /// Returns `true` if the index is these lines, with this result of reading the archive.
 fn indexes<I: Input>(
     alloc: Global,
-    input: &mut I,
+    archive: &mut PlainArchive<I>,
     lines: &[u8],
     wanted: Result<u64, Fault>,
 ) -> Result<bool, Refused> {
     let mut indexer = Indexer::new(alloc, Types::usual());
     let mut out = Gather::new(alloc);
-    let added = settled(indexer.add("a.warc", input))?;
+    let added = settled(indexer.add("a.warc", archive))?;
     let written = settled(indexer.write(&mut out))?;
     Ok(added == wanted && written.is_ok() && out.bytes() == lines)
 }
@@ -149,8 +149,17 @@ fn reads_all<I: Input + Drop, F: FnMut() -> Result<I, Fail>>(
     let lines = listing(alloc, 3, None)?;
     let index = first_of(alloc, &INDEX, 3)?;
     Ok(
-        lists(alloc, &mut make()?, lines.as_slice(), Ok(3))?
-            && indexes(alloc, &mut make()?, index.as_slice(), Ok(3))?,
+        lists(
+            alloc,
+            &mut PlainArchive::new(alloc, make()?),
+            lines.as_slice(),
+            Ok(3),
+        )? && indexes(
+            alloc,
+            &mut PlainArchive::new(alloc, make()?),
+            index.as_slice(),
+            Ok(3),
+        )?,
     )
 }
 
@@ -190,9 +199,10 @@ fn written<R: Runtime>(
 
 #[test]
 fn the_last_record_is_fetched_from_a_file(rt: HostRuntime) -> Result<(), Fail> {
-    let mut file = written(&rt, "archive.warc", &long_archive(rt.alloc())?)?;
+    let file = written(&rt, "archive.warc", &long_archive(rt.alloc())?)?;
+    let mut archive = PlainArchive::new(rt.alloc(), file);
     let mut out = Gather::new(rt.alloc());
-    let answer = settled(get(rt.alloc(), 20_427, &mut file, &mut out))?;
+    let answer = settled(archive.get(20_427, &mut out))?;
     assert!(rt; answer == Ok(213) && out.bytes() == SHORT);
     Ok(())
 }
@@ -203,8 +213,9 @@ where
     I: Drop,
 {
     let lines = listing(alloc, 3, None)?;
-    let mut counted = Counted::new(input);
-    let is_listed = lists(alloc, &mut counted, &lines, Ok(3))?;
+    let mut archive = PlainArchive::new(alloc, Counted::new(input));
+    let is_listed = lists(alloc, &mut archive, &lines, Ok(3))?;
+    let counted = archive.input();
     Ok(is_listed && counted.read == read && counted.skipped == skipped)
 }
 
@@ -219,8 +230,9 @@ fn indexes_by_skips<I: Input>(
 where
     I: Drop,
 {
-    let mut counted = Counted::new(input);
-    let is_indexed = indexes(alloc, &mut counted, index, Ok(records))?;
+    let mut archive = PlainArchive::new(alloc, Counted::new(input));
+    let is_indexed = indexes(alloc, &mut archive, index, Ok(records))?;
+    let counted = archive.input();
     Ok(is_indexed && counted.read == read && counted.skipped == skipped)
 }
 

@@ -7,14 +7,20 @@ use fixtures::{
     METADATA, RESOURCE, RESOURCE_LINE, RESPONSE, RESPONSE_LINE, Refused, damaged_archive, joined,
     repeated,
 };
-use index_core::{IndexFault, Indexer};
+use index_core::{IndexFault, Indexer, PlainArchive};
 use std::alloc::Global;
 use std::test::Fail;
 use warc_core::{Cause, Fault, Gather, Slice};
 
 /// Adds an archive.
-fn added(indexer: &mut Indexer, name: &str, archive: &[u8]) -> Result<Result<u64, Fault>, Refused> {
-    settled(indexer.add(name, &mut Slice::new(archive)))
+fn added(
+    alloc: Global,
+    indexer: &mut Indexer,
+    name: &str,
+    archive: &[u8],
+) -> Result<Result<u64, Fault>, Refused> {
+    let mut archive = PlainArchive::new(alloc, Slice::new(archive));
+    settled(indexer.add(name, &mut archive))
 }
 
 /// Returns `true` if these lines are written, and whether there are this many.
@@ -37,12 +43,15 @@ fn indexes(
     number: u64,
 ) -> Result<bool, Refused> {
     let mut indexer = Indexer::new(alloc, Types::usual());
-    Ok(added(&mut indexer, "b.warc", archive)? == answer && writes(alloc, &indexer, lines, number)?)
+    Ok(
+        added(alloc, &mut indexer, "b.warc", archive)? == answer
+            && writes(alloc, &indexer, lines, number)?,
+    )
 }
 
 /// Returns `true` if the name is refused with this fault, before anything is read.
-fn refuses(indexer: &mut Indexer, name: &str, fault: IndexFault) -> bool {
-    indexer.add(name, &mut Slice::new(RESPONSE)) == Err(fault)
+fn refuses(alloc: Global, indexer: &mut Indexer, name: &str, fault: IndexFault) -> bool {
+    indexer.add(name, &mut PlainArchive::new(alloc, Slice::new(RESPONSE))) == Err(fault)
 }
 
 /// Returns `true` if the damaged archive, followed by this, has the captures of its two whole records, and this fault.
@@ -70,17 +79,24 @@ fn an_indexer_takes_each_name_once(rt: HostRuntime) -> Result<(), Fail> {
     let long = repeated(alloc, b"a", 256)?;
     let long = str::from_utf8(long.as_slice())?;
     let mut indexer = Indexer::new(alloc, Types::usual());
-    assert!(rt; added(&mut indexer, "b.warc", RESPONSE)? == Ok(1));
-    assert!(rt; refuses(&mut indexer, "", IndexFault::BadName));
-    assert!(rt; refuses(&mut indexer, long, IndexFault::BadName));
-    assert!(rt; refuses(&mut indexer, "b.warc", IndexFault::DuplicateName));
+    assert!(rt; added(rt.alloc(), &mut indexer, "b.warc", RESPONSE)? == Ok(1));
+    assert!(rt; refuses(rt.alloc(), &mut indexer, "", IndexFault::BadName));
+    assert!(rt; refuses(rt.alloc(), &mut indexer, long, IndexFault::BadName));
+    assert!(rt;
+        refuses(
+            rt.alloc(),
+            &mut indexer,
+            "b.warc",
+            IndexFault::DuplicateName
+        )
+    );
     assert!(rt; writes(alloc, &indexer, RESPONSE_LINE, 1)?);
     Ok(())
 }
 
 /// Returns `true` if a capture is added and then forgotten.
 fn is_forgotten(alloc: Global, indexer: &mut Indexer) -> Result<bool, Refused> {
-    let count = added(indexer, "a.warc", RESOURCE)?;
+    let count = added(alloc, indexer, "a.warc", RESOURCE)?;
     indexer.forget_captures();
     Ok(count == Ok(1) && writes(alloc, indexer, b"", 0)?)
 }
@@ -91,8 +107,15 @@ fn captures_are_forgotten_and_names_are_not(rt: HostRuntime) -> Result<(), Fail>
     let alloc = rt.alloc();
     let mut indexer = Indexer::new(alloc, Types::usual());
     assert!(rt; is_forgotten(alloc, &mut indexer)?);
-    assert!(rt; refuses(&mut indexer, "a.warc", IndexFault::DuplicateName));
-    assert!(rt; added(&mut indexer, "b.warc", RESPONSE)? == Ok(1));
+    assert!(rt;
+        refuses(
+            rt.alloc(),
+            &mut indexer,
+            "a.warc",
+            IndexFault::DuplicateName
+        )
+    );
+    assert!(rt; added(rt.alloc(), &mut indexer, "b.warc", RESPONSE)? == Ok(1));
     assert!(rt; writes(alloc, &indexer, RESPONSE_LINE, 1)?);
     Ok(())
 }
@@ -117,7 +140,7 @@ fn an_indexer_takes_records_of_its_types(rt: HostRuntime) -> Result<(), Fail> {
         let number = u64::from(!lines.is_empty());
         let mut indexer = Indexer::new(rt.alloc(), chosen);
         assert!(rt;
-            added(&mut indexer, "m.warc", archive)? == Ok(number),
+            added(rt.alloc(), &mut indexer, "m.warc", archive)? == Ok(number),
             "{types}"
         );
         assert!(rt; writes(rt.alloc(), &indexer, lines, number)?, "{types}");

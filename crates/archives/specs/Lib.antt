@@ -7,3 +7,6 @@ pub mod Walking
 pub mod Captures
 pub mod Plain
 pub mod MemberCaptures
+pub mod Looked
+pub mod Either
+pub mod Failed

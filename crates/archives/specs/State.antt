@@ -18,3 +18,11 @@ pub record ArchiveState : Type 0 where
 pub record IsUnread (s : ArchiveState) : Type 0 where
   pub readable : s.is_open ≡ true
   pub start : s.offset ≡ 0
+
+-- how an archive keeps its records, and the bytes that it has left, if they are known
+pub record ToldArchive : Type 0 where
+  pub packing : Packing
+  pub bytes : Option (List ℕ)
+
+abbrev pub told_of : ArchiveState → ToldArchive
+told_of s = record { packing = s.packing; bytes = s.ahead }

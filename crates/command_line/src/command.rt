@@ -9,7 +9,9 @@ use crate::help::archives::{GET, INDEX, LIST, SCAN, VERIFY};
 use crate::help::indexes::{CHECK, MERGE, PAGES, QUERY, SERVE};
 use crate::help::{
     ARCHIVE, CDXJ, LENGTH, NAME, OFFSET, Operand, PROGRAM, Page, QUERY_TEXT, SIZES, TYPES,
+    compressed,
 };
+use crate::program::Program;
 use clap::{Arg, Command};
 use std::alloc::{AllocError, Global};
 
@@ -30,39 +32,55 @@ enum Argument {
     Indexes,
 }
 
-/// Returns the clap command of the program. The only error is refused memory.
-pub fn command_line<'a>(alloc: Global) -> Result<Command<'a>, AllocError>
+/// Returns the clap command of a program. The only error is refused memory.
+pub fn command_line<'a>(alloc: Global, of: Program) -> Result<Command<'a>, AllocError>
     ensures { IfOk result (λ command. app_of command ≡ warcdx) }
 {
-    let program = with_archive_commands(program(alloc)?, alloc)?;
+    let program = with_archive_commands(program(alloc, of)?, alloc, of)?;
     let program = with_index_commands(program, alloc)?;
-    with_record_commands(program, alloc)
+    with_record_commands(program, alloc, of)
 }
 
-/// Returns the clap command of the program without subcommands.
-fn program<'a>(alloc: Global) -> Result<Command<'a>, AllocError>
+/// Returns the page that a program has: the first one for plain archives, the other one where they
+/// may be compressed.
+fn page_of(of: Program, plain: Page<'static>, compressed: Page<'static>) -> Page<'static> {
+    match of {
+        Program::Warcdx => plain,
+        Program::WarcdxGz => compressed,
+    }
+}
+
+/// Returns the clap command of a program without subcommands.
+fn program<'a>(alloc: Global, of: Program) -> Result<Command<'a>, AllocError>
     ensures { IfOk result (λ command. app_of command ≡ without_commands) }
 {
+    let page = page_of(of, PROGRAM, compressed::PROGRAM);
     Command::new(alloc, "warcdx")
-        .about(PROGRAM.about)
-        .after_help(PROGRAM.details)
+        .about(page.about)
+        .after_help(page.details)
         .no_binary_name(true)
         .disable_help_subcommand(true)
-        .bin_name("warcdx")
+        .bin_name(of.name())
 }
 
 /// Adds the subcommands that list, verify and index archives.
-fn with_archive_commands<'a>(program: Command<'a>, alloc: Global) -> Result<Command<'a>, AllocError>
+fn with_archive_commands<'a>(
+    program: Command<'a>,
+    alloc: Global,
+    of: Program,
+) -> Result<Command<'a>, AllocError>
     ensures { IfOk result (λ more. app_of more
         ≡ with_commands (app_of program.entry) (take 3 commands)) }
 {
-    let list = with_command(program, alloc, "list", LIST, &[Argument::Archives])?;
-    let verify = with_command(list, alloc, "verify", VERIFY, &[Argument::Archives])?;
+    let page = page_of(of, LIST, compressed::LIST);
+    let list = with_command(program, alloc, "list", page, &[Argument::Archives])?;
+    let page = page_of(of, VERIFY, compressed::VERIFY);
+    let verify = with_command(list, alloc, "verify", page, &[Argument::Archives])?;
     with_command(
         verify,
         alloc,
         "index",
-        INDEX,
+        page_of(of, INDEX, compressed::INDEX),
         &[Argument::Types, Argument::Name, Argument::Archives],
     )
 }
@@ -92,7 +110,11 @@ fn with_index_commands<'a>(program: Command<'a>, alloc: Global) -> Result<Comman
 }
 
 /// Adds the subcommands that write one record of an archive, and answer a query over archives.
-fn with_record_commands<'a>(program: Command<'a>, alloc: Global) -> Result<Command<'a>, AllocError>
+fn with_record_commands<'a>(
+    program: Command<'a>,
+    alloc: Global,
+    of: Program,
+) -> Result<Command<'a>, AllocError>
     ensures { IfOk result (λ more. app_of more
         ≡ with_commands (app_of program.entry) (drop 8 commands)) }
 {
@@ -100,14 +122,14 @@ fn with_record_commands<'a>(program: Command<'a>, alloc: Global) -> Result<Comma
         program,
         alloc,
         "get",
-        GET,
+        page_of(of, GET, compressed::GET),
         &[Argument::Length, Argument::Offset, Argument::Archive],
     )?;
     with_command(
         get,
         alloc,
         "scan",
-        SCAN,
+        page_of(of, SCAN, compressed::SCAN),
         &[
             Argument::Types,
             Argument::Name,

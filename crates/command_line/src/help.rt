@@ -1,5 +1,6 @@
 //! The help texts, at most 80 columns wide.
 pub mod archives;
+pub mod compressed;
 pub mod indexes;
 
 /// A command's page.

@@ -9,11 +9,12 @@ ghost use Rattle.command_line.specs.Clap.{matches_task, refusal_for};
 
 use crate::command::command_line;
 use crate::fault::WordsFault;
-use crate::help::VERSION;
+use crate::help::{VERSION, compressed};
 use crate::matches::task_of;
 use crate::options::{
     NamedInput, asks_for_version, help_option, input_of, named, other_words, unknown_option,
 };
+use crate::program::Program;
 use crate::task::Task;
 use crate::usage_errors::{fault_of, no_input, no_task, unexpected};
 use clap::{ArgMatches, Error};
@@ -34,25 +35,25 @@ use std::alloc::{AllocError, Global};
 ///   digits below 2^63, for sizes that aren't 1 to 1,000 numbers from 1 to 1,000,000, each of at most 7 digits, separated by commas,
 ///   for types that `Types::read` doesn't accept, and for a name without an archive `-`.
 /// - `Memory` if memory could not be allocated.
-pub fn read_words(alloc: Global, words: &[String]) -> Result<Task, WordsFault>
+pub fn read_words(alloc: Global, of: Program, words: &[String]) -> Result<Task, WordsFault>
     ensures { IsMeant (asked (texts words.now)) result }
 {
     if asks_for_version(words) {
-        return Err(version(alloc));
+        return Err(version(alloc, of));
     }
     match named(words) {
-        Some(named) => read_named_task(alloc, &named),
-        None => read_task(alloc, words),
+        Some(named) => read_named_task(alloc, of, &named),
+        None => read_task(alloc, of, words),
     }
 }
 
 /// Reads arguments that give a name to standard input.
-fn read_named_task(alloc: Global, named: &NamedInput<'_>) -> Result<Task, WordsFault>
+fn read_named_task(alloc: Global, of: Program, named: &NamedInput<'_>) -> Result<Task, WordsFault>
     ensures { IsMeant (named_as (string_bytes named.now.name.now)
         (asked_of (texts named.now.before.now ++ texts named.now.after.now))) result }
 {
     let words = joined(alloc, named.before, named.after)?;
-    let task = read_task(alloc, &words)?;
+    let task = read_task(alloc, of, &words)?;
     with_input(alloc, task, named.name)
 }
 
@@ -134,17 +135,21 @@ fn push_copies(words: &mut Vec<String>, more: &[String]) -> Result<(), AllocErro
 }
 
 /// Returns the program's name and version, as a help text.
-fn version(alloc: Global) -> WordsFault
+fn version(alloc: Global, of: Program) -> WordsFault
     ensures { IfSome (refusal_of result) (λ refusal. refusal ≡ Help) }
 {
-    match String::from_str(alloc, VERSION) {
+    let text = match of {
+        Program::Warcdx => VERSION,
+        Program::WarcdxGz => compressed::VERSION,
+    };
+    match String::from_str(alloc, text) {
         Ok(text) => WordsFault::Help(text),
         Err(_refused) => WordsFault::Memory,
     }
 }
 
 /// Reads arguments that don't ask for the version.
-fn read_task(alloc: Global, words: &[String]) -> Result<Task, WordsFault>
+fn read_task(alloc: Global, of: Program, words: &[String]) -> Result<Task, WordsFault>
     ensures { IsMeant (asked_of (texts words.now)) result }
 {
     let others = other_words(words);
@@ -152,9 +157,9 @@ fn read_task(alloc: Global, words: &[String]) -> Result<Task, WordsFault>
         return Err(unexpected(alloc, option));
     }
     if let Some(help) = help_option(others) {
-        return Err(help_fault(alloc, words, help));
+        return Err(help_fault(alloc, of, words, help));
     }
-    match matches_of(alloc, words) {
+    match matches_of(alloc, of, words) {
         Ok(matches) => match task_of(alloc, &matches)? {
             Some(task) => Ok(task),
             None => Err(no_task(alloc, &matches)),
@@ -164,7 +169,7 @@ fn read_task(alloc: Global, words: &[String]) -> Result<Task, WordsFault>
 }
 
 /// Returns clap's result for arguments without options, except a choice of types.
-fn matches_of<'a>(alloc: Global, words: &'a [String]) -> Result<ArgMatches<'a>, Error>
+fn matches_of<'a>(alloc: Global, of: Program, words: &'a [String]) -> Result<ArgMatches<'a>, Error>
     requires known { list_any is_unknown_option (other_words (texts words.now)) ≡ false }
     requires plain { list_any asks_for_help (other_words (texts words.now)) ≡ false }
     ensures matches { IfOk result (λ matches. asked_of (texts words.entry.now)
@@ -174,27 +179,27 @@ fn matches_of<'a>(alloc: Global, words: &'a [String]) -> Result<ArgMatches<'a>, 
 {
     // the proof needs that a slice has fewer than 2^64 words
     let _count = words.len();
-    command_line(alloc)?.try_get_matches_from(words)
+    command_line(alloc, of)?.try_get_matches_from(words)
 }
 
 /// Returns clap's result for the first argument and the one that asks for help. Given all arguments, clap could first
 /// refuse one too many.
-fn help_fault(alloc: Global, words: &[String], help: &String) -> WordsFault
+fn help_fault(alloc: Global, of: Program, words: &[String], help: &String) -> WordsFault
     requires known { list_any is_unknown_option (take 1 (texts words.now)) ≡ false }
     requires asks { asks_for_help (string_bytes help.now) ≡ true }
     ensures { IfSome (refusal_of result) (λ refusal. refusal ≡ help_or_usage (texts words.now)) }
 {
     let first = words.first().unwrap_or(help);
-    fault_of(alloc, words, &help_error(alloc, first, help))
+    fault_of(alloc, words, &help_error(alloc, of, first, help))
 }
 
-fn help_error(alloc: Global, first: &str, help: &str) -> Error
+fn help_error(alloc: Global, of: Program, first: &str, help: &str) -> Error
     requires known { is_unknown_option first.now ≡ false }
     requires asks { asks_for_help help.now ≡ true }
     ensures { IfSome (refusal_for (kind_of result)) (λ refusal. refusal
         ≡ help_or_usage (first.now ∷ [])) }
 {
-    match command_line(alloc) {
+    match command_line(alloc, of) {
         Ok(command) => match command.try_get_matches_from(&[first, help]) {
             Ok(_matches) => unreachable!(),
             Err(error) => error,

@@ -9,34 +9,38 @@ ghost use Rattle.door_examples.specs.Texts.{a_line};
 use cdxj_core::index_has_one_list_of_members;
 use command_line::Task;
 use index_core::{
-    Gather, Slice, archive_has_one_list_of_captures, one_thing_stands_at_an_offset,
+    Gather, PlainArchive, Slice, archive_has_one_list_of_captures, one_thing_stands_at_an_offset,
     plain_archive_is_its_records,
 };
 use query_core::{SliceSource, merge_writes_one_text, pages_write_one_text};
 use scan_core::scan_writes_one_text;
+use std::alloc::Global;
 use std::rt::Runtime;
-use tasks::{Opener, Outcome, perform};
+use tasks::{Console, Opener, Outcome, perform};
 use warc_core::laws::one_reading;
 
 /// An archive, an index and standard input in memory. All names of archives are those of the archive, and all names of
 /// indexes those of the index.
 #[derive(Drop)]
 pub struct Shelf<'a> {
+    pub alloc: Global,
     pub archive: &'a [u8],
     pub index: &'a [u8],
     pub input: &'a [u8],
 }
 
 impl<'a> Opener for Shelf<'a> {
-    ghost use Rattle.std.specs.Prelude.{Some};
+    ghost use Rattle.std.specs.Prelude.{◌≡◌, Some};
+    ghost use Rattle.index_core.specs.Packing.{Plain};
 
-    type Archive = Slice<'a>;
+    type Archive = PlainArchive<Slice<'a>>;
 
     type Index = SliceSource<'a>;
 
     type Lines = Slice<'a>;
 
-    ghost archive_bytes = { λ shelf _. Some shelf.archive.now };
+    ghost tells_archive = { λ shelf _ told. told
+        ≡ record { packing = Plain; bytes = Some shelf.archive.now } };
 
     ghost index_bytes = { λ shelf _. Some shelf.index.now };
 
@@ -46,9 +50,9 @@ impl<'a> Opener for Shelf<'a> {
 
     ghost index_failed = { λ _ _. ⊥ };
 
-    fn open_archive(&self, name: &str) -> Result<Slice<'a>, Outcome> {
+    fn open_archive(&self, name: &str) -> Result<PlainArchive<Slice<'a>>, Outcome> {
         let _ = name;
-        Ok(Slice::new(self.archive))
+        Ok(PlainArchive::new(self.alloc, Slice::new(self.archive)))
     }
 
     fn open_index(&self, name: &str) -> Result<SliceSource<'a>, Outcome> {
@@ -64,7 +68,7 @@ impl<'a> Opener for Shelf<'a> {
 /// Performs a task over the files of a shelf. If these are the archive, the index and the input of the examples, and the
 /// task ends as done, it has written the text that the examples say.
 pub fn perform_on_shelf<R: Runtime + AllocGlobal>(
-    rt: &R,
+    console: &Console<R>,
     shelf: &Shelf<'_>,
     task: &Task,
     out: &mut Gather,
@@ -81,5 +85,5 @@ pub fn perform_on_shelf<R: Runtime + AllocGlobal>(
     merge_writes_one_text();
     pages_write_one_text();
     scan_writes_one_text();
-    perform(rt, shelf, task, out)
+    perform(console, shelf, task, out)
 }

@@ -3,6 +3,7 @@ use Rattle.std.proofs.Common.{◌≡◌, ℕ, zero, suc, [], ◌∷◌, zero-add
 use Rattle.std.proofs.Math.Nat.{suc-add}
 use Rattle.std.proofs.Math.Seq.{take-nil, take-append_seam}
 use Rattle.std.proofs.lemmas.List.{drop-take, drop-drop}
+use Rattle.std.proofs.lemmas.Grind.{common_steps}
 use Rattle.std.specs.Io.KnownBytes.{Keeps, Consumes, prepend_known}
 
 -- what is held is told by the bytes up to its end
@@ -64,4 +65,4 @@ held-read from to by n old mid new order within same front =
 
 pub ruleset held_rules = (held-moved, held-same)
 
-pub ruleset read_rules = (held-more, read-keeps, items-are)
+pub ruleset read_rules = (held-more, read-keeps, items-are, common_steps)

@@ -66,3 +66,17 @@ pub behind-skipped : {E : Type 0} (old new : Option Left) (r : Result ℕ E) →
     → option_map behind_of old ≡ Some behind → option_map behind_of new ≡ Some behind
 behind-skipped old new (Ok n) (given, count, gives) keeps = behind-given old new given gives
 behind-skipped old new (Err e) gives keeps = behind-kept old new keeps
+
+-- what is left, by what stands behind the member
+pub left-behind : (left : Option Left) (behind : List ℕ) → option_map behind_of left ≡ Some (Ok behind)
+    → (text : List ℕ) × (left ≡ Some (Ok (text, behind)))
+left-behind None behind e = absurd cc
+left-behind (Some (Ok (text, other))) behind e =
+    let same : other ≡ behind = cc in (text, ap (λ l. Some (Ok (text, l))) same)
+left-behind (Some (Err fault)) behind e = absurd cc
+
+pub left-refused : (left : Option Left) (fault : DeflateFault) → option_map behind_of left ≡ Some (Err fault) → left ≡ Some (Err fault)
+left-refused None fault e = absurd cc
+left-refused (Some (Ok (text, behind))) fault e = absurd cc
+left-refused (Some (Err other)) fault e =
+    let same : other ≡ fault = cc in ap (λ f. Some (Err f)) same

@@ -80,7 +80,7 @@ impl ReadAhead {
     /// Reads once from the input, behind what is held. `Ok(0)` is the end of the input.
     ///
     /// The only error is the input's failure. What is held is then as it was.
-    #[tactic(auto, using(crate::proofs::ReadAheadLemmas::read_rules, std::proofs::lemmas::Grind::common_steps))]
+    #[tactic(auto, using(crate::proofs::ReadAheadLemmas::read_rules))]
     pub fn read_on<I: Input>(&mut self, input: &mut I) -> Result<usize, DeviceFault>
         requires { length self.old ≤ MOST_HELD }
         ensures bytes { Keeps (prepend_known self.old (I.remaining input.old))

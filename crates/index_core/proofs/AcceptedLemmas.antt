@@ -6,12 +6,14 @@ use Rattle.index_core.proofs.Words.{AreCaptured, IsTaken, IsAcceptedTo}
 use Rattle.cdxj_core.specs.Entries.{line_text}
 use Rattle.capture_core.proofs.Captures.{one_capture}
 use Rattle.capture_core.specs.declared.fault.CaptureFault.TheVariants.{LineTooLong, KeyTooLong}
-use Rattle.index_core.specs.Accepted.{IsAccepted, IsAcceptedWhole, IsCaptureFrom, MayBeRefused}
-use Rattle.index_core.specs.Form.{Form, Stored, IsLawful, WalksOver, end_of, plain}
+use Rattle.archives.specs.Captures.{IsCaptureFrom, MayBeRefused}
+use Rattle.index_core.specs.Accepted.{IsAccepted, IsAcceptedWhole}
+use Rattle.archives.specs.Packing.{form_to}
+use Rattle.archives.specs.Form.{Form, Stored, IsLawful, WalksOver, end_of, plain}
 use Rattle.index_core.specs.Laws.{AcceptedIsWhole, IsNoFaultOfArchive, OneIndexed, OneIndexedTo}
 use Rattle.index_core.specs.Laws.{WholeIsNotRefused}
-use Rattle.index_core.proofs.PlainLemmas.{plain_at, plain_lawful}
-use Rattle.index_core.proofs.RecordWalks.{not_both, one_list, same_records, walk_extends, walks_more}
+use Rattle.archives.proofs.PlainLemmas.{plain_at, plain_lawful}
+use Rattle.archives.proofs.RecordWalks.{not_both, one_list, same_records, walk_extends, walks_more}
 
 -- what holds of each holds of each behind the first of them
 pub each_behind : (A : Stored → Type 0) (records more : List Stored) → AllByRecursion A (records ++ more)
@@ -88,15 +90,16 @@ module _ (types : Kind → Bool) (limits : Limits) (form : Form) (name : List �
     refused_at law end rest (KeyTooLong o) t = rw (← t.1.2) (law.found end rest t.1.0 t.0 t.1.1)
 
 pub accepted_is_whole : AcceptedIsWhole
-accepted_is_whole types limits limit name archive captures a =
-    as_whole types limits (plain limit) name archive captures a
+accepted_is_whole types limits limit packing name archive captures a =
+    as_whole types limits (form_to limit packing) name archive captures a
 
 pub whole_is_not_refused : WholeIsNotRefused
-whole_is_not_refused types limits limit name archive gained fault a t =
-    not_refused types limits (plain limit) name archive fault gained a t
+whole_is_not_refused types limits limit packing name archive gained fault a t =
+    not_refused types limits (form_to limit packing) name archive fault gained a t
 
 pub one_indexed : OneIndexed
-one_indexed types limits limit name archive a b v w = one_accepted types limits (plain limit) name archive a b v w
+one_indexed types limits limit packing name archive a b v w =
+    one_accepted types limits (form_to limit packing) name archive a b v w
 
 -- where a plain archive is refused, a walk to the fault ends
 pub ends_at : (types : Kind → Bool) (limits : Limits) (limit : ℕ) (name archive : List ℕ) (fault : CaptureFault)

@@ -1,27 +1,16 @@
 -- The captures that are added, one record further, at the end, and at a fault.
-use Rattle.index_core.proofs.Words.{arith, ◌≡◌, ◌∙◌, ℕ, ◌<◌, ◌≤◌, Bool, List, [], ◌∷◌, ◌++◌, Option}
-use Rattle.index_core.proofs.Words.{None, Some, Ok, Err, IfSome, option_to_list, length, drop, ap, inl, refl, sym}
-use Rattle.index_core.proofs.Words.{append_assoc, drop-append_seam, Kind, HeadView, Archive, Fault}
-use Rattle.index_core.proofs.Words.{Reads, after_record, next-spelled, read-spelled}
-use Rattle.index_core.proofs.Words.{record-unclosed, record-whole, EntryValue, CaptureFault, Limits}
-use Rattle.index_core.proofs.Words.{AreCaptured, IsAcceptedTo, record-stopped}
-use Rattle.std.proofs.Common.{IsSome}
+use Rattle.index_core.proofs.Words.{arith, ◌≡◌, ℕ, ◌≤◌, Bool, List, [], ◌∷◌, ◌++◌, Option}
+use Rattle.index_core.proofs.Words.{None, Some, Ok, IfSome, option_to_list, length, ap, inl, refl}
+use Rattle.index_core.proofs.Words.{append_assoc, Kind, Archive, EntryValue, CaptureFault, Limits}
+use Rattle.index_core.proofs.Words.{AreCaptured, IsAcceptedTo}
 use Rattle.std.specs.Bool.{⊤}
 use Rattle.warc_core.specs.declared.fault.Cause.TheVariants as causes
-use Rattle.warc_core.specs.Next.{next_at}
-use Rattle.warc_core.specs.Reading.{IsPossibleCause}
-use Rattle.warc_core.specs.Walk.{record_at}
 use Rattle.cdxj_core.specs.Entries.{line_text}
-use Rattle.capture_core.specs.Capture.{plain_place}
-use Rattle.capture_core.specs.CaptureAnswer.{Captures, IsEntryOf}
-use Rattle.capture_core.specs.Indexed.{url_of}
-use Rattle.capture_core.specs.RecordReading.{IsCaptureFaultAt, reading_of}
-use Rattle.capture_core.specs.declared.fault.CaptureFault.TheVariants.{LineTooLong, KeyTooLong}
-use Rattle.index_core.specs.Accepted.{IsAccepted, IsCaptured, IsCaptureFrom, IsNext, MayBeRefused}
-use Rattle.index_core.specs.Captures.{TakesRecord}
-use Rattle.index_core.specs.Form.{Form, Placed, Stored, Comes, IsLawful, WalksOver, end_of, plain, plain_record}
-use Rattle.index_core.proofs.PlainLemmas.{plain_follows, plain_possible, plain_reads}
-use Rattle.index_core.proofs.RecordWalks.{walks_more}
+use Rattle.capture_core.specs.CaptureAnswer.{IsEntryOf}
+use Rattle.archives.specs.Captures.{MayBeRefused, TakesRecord}
+use Rattle.archives.specs.Form.{Form, Placed, Stored, Comes, IsLawful, WalksOver, end_of}
+use Rattle.archives.proofs.RecordWalks.{walks_more}
+use Rattle.index_core.specs.Accepted.{IsAccepted, IsCaptured}
 
 module _ (types : Kind → Bool) (limits : Limits) (form : Form) (name : List ℕ) where
   -- These are the captures of the records so far, the last of which ends at the offset.
@@ -69,6 +58,13 @@ module _ (types : Kind → Bool) (limits : Limits) (form : Form) (name : List �
   AddedSoFar-refused (Some archive) None o gained fault s r = absurd s
   AddedSoFar-refused (Some archive) (Some z) o gained fault s r =
       record { records = s.0; end = o; rest = z; walks = s.1; captured = s.2; refused = r }
+
+  -- there was no memory for the capture of what comes next
+  pub no_room : (now : Option (List ℕ)) (o at : ℕ) → form.Follows o at
+      → IfSome now (λ bytes. MayBeRefused types limits form name o bytes
+      (Archive (record { offset = at; cause = causes.Memory })))
+  no_room None o at h = tt
+  no_room (Some bytes) o at h = (h, inl refl)
 
   -- nothing comes next
   pub AddedSoFar-end : (law : IsLawful form) (left now after : Option (List ℕ)) (o : ℕ) (gained : List EntryValue)

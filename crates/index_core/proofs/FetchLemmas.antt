@@ -1,17 +1,20 @@
 -- The walk to an offset, and what was copied there.
 use Rattle.index_core.proofs.Words.{err_from_is_err_and, ◌≡◌, ◌∙◌, ℕ, ◌+◌, ◌-◌, ◌≤◌, List, [], ◌∷◌}
-use Rattle.index_core.proofs.Words.{◌++◌, ◌⊎◌, inr, Option, None, Some, Result, Ok, Err, IfSome}
+use Rattle.index_core.proofs.Words.{◌++◌, ◌⊎◌, inl, inr, Option, None, Some, Result, Ok, Err, IfSome}
 use Rattle.index_core.proofs.Words.{length, take, refl, subst, arith, Appends, Cause, Fault}
 use Rattle.index_core.proofs.Words.{AppendsPrefix, HeadView, record_length, Reads, Walks}
 use Rattle.index_core.proofs.Words.{next-spelled, Walks-more, none_at_end, record-stopped}
 use Rattle.index_core.proofs.Words.{record-unclosed, record-whole, Archive, IndexFault, IsInRecord}
-use Rattle.index_core.proofs.Words.{Fetches}
+use Rattle.index_core.proofs.Words.{Fetches, drop, ◌^◌}
 use Rattle.warc_core.specs.Next.{next_at}
 use Rattle.warc_core.specs.Walk.{record_at}
 use Rattle.warc_core.proofs.ReadingLemmas.{front_of}
 use Rattle.warc_core.proofs.WalkLemmas.{record-end}
 use Rattle.warc_core.proofs.DigestLemmas.{take_past}
-use Rattle.index_core.specs.Fetching.{IsBehindRecords, most_written, most_written_at}
+use Rattle.index_core.specs.Fetching.{IsBehindRecords, StopsAt, most_written, most_written_at}
+use Rattle.warc_core.specs.declared.fault.Cause.TheVariants.{Memory}
+use Rattle.archives.specs.Plain.{no_memory}
+use Rattle.index_core.specs.FetchingAt.{FetchesAt}
 use Rattle.index_core.specs.Copying.{CopiesRecord, CopiesNext, WalkedTo}
 use Rattle.devices.proofs.WritingLemmas.{wrote_nothing}
 use Rattle.index_core.proofs.ArchiveWalks.{from_offset}
@@ -32,6 +35,21 @@ module _ (limit : ℕ) where
   ends_before o (Some archive) (Some z) (Some y) offset s r l = inr
       (s.0, record { end = o; walks = subst (Walks limit 0 archive s.0 o) (none_at_end limit o z y r) s.1 }, l)
   ends_before o left now after offset s r l = grind arith
+
+  -- what comes next before the offset couldn't be read
+  pub stops_before : (o : ℕ) (f : Fault) (left now after : Option (List ℕ)) (offset : ℕ) → WalkedTo limit o left now
+      → Reads (record_at limit o) (Err f.cause) now after → f.offset ≡ o → o ≤ offset
+      → (f.offset ≤ offset) × IfSome left (λ archive. StopsAt limit archive offset f)
+  stops_before o f None now after offset s r e l = (omega arith, tt)
+  stops_before o f (Some archive) None after offset s r e l = absurd s
+  stops_before o f (Some archive) (Some z) after offset s (inl memory) e l =
+      (omega arith, inr (inl memory, (s.0, z, rw e s.1)))
+  stops_before o f (Some archive) (Some z) after offset s (inr (inl read)) e l =
+      (omega arith, inr (inr read, (s.0, z, rw e s.1)))
+  stops_before o f (Some archive) (Some z) after offset s (inr (inr refused)) e l = (
+    omega arith,
+    inl (s.0, record { rest = z; walks = rw e s.1; refused = rw e refused }, omega arith),
+  )
 
   -- ---- what comes next
 
@@ -80,7 +98,11 @@ module _ (limit : ℕ) where
   pub next_stopped : (o : ℕ) (f : Fault) (before after w : Option (List ℕ))
       → Reads (next_at limit o) (Err f.cause) before after → f.offset ≡ o
       → CopiesNext limit o (Err (faults.Capture (Archive f))) before w w
-  next_stopped o f before after w n e = grind (arith, record-stopped, wrote_nothing)
+  next_stopped o f None after w n e = (e, tt)
+  next_stopped o f (Some bytes) after w n e = (
+    e,
+    (record-stopped limit o (Some bytes) after after f.cause n, wrote_nothing w (most_written_at limit o bytes)),
+  )
 
   -- ---- the whole call
 
@@ -89,6 +111,22 @@ module _ (limit : ℕ) where
   fetched o (Err faults.NoRecord) (Some archive) (Some z) w u s c = inr
       (s.0, record { end = o; walks = subst (Walks limit 0 archive s.0 o) c s.1 }, omega arith)
   fetched o r left known w u s c = grind (arith, from_offset)
+
+  -- ---- without memory for a reader
+
+  pub unread_stops : (o : ℕ) (f : Fault) (left w : Option (List ℕ)) → f ≡ no_memory
+      → Fetches limit o left (Err (faults.Capture (Archive f))) w w
+  unread_stops o f None w e = rw e (omega arith, tt)
+  unread_stops o f (Some archive) w e = rw e (
+    omega arith,
+    (inr (inl refl, ([], archive, (refl, refl))), wrote_nothing w (most_written_at limit o (drop o archive))),
+  )
+
+  pub unread_stops_at : (o len : ℕ) (f : Fault) (left w : Option (List ℕ)) → f.offset ≡ o → f.cause ≡ Memory
+      → o ≤ 2 ^ 63 - 1 → FetchesAt limit o len left (Err (faults.Capture (Archive f))) w w
+  unread_stops_at o len f None w at e l = inr (l, (at, tt))
+  unread_stops_at o len f (Some archive) w at e l =
+      inr (l, (at, (inl e, wrote_nothing w (most_written_at limit o (drop o archive)))))
 
 pub ruleset next_rules = (err_from_is_err_and, next_none, next_stopped)
 

@@ -7,12 +7,12 @@ use Rattle.cdxj_places.specs.Rising.{IsIn}
 use Rattle.capture_core.specs.declared.place.Place.{Place}
 use Rattle.capture_core.specs.Capture.{IsCaptureUnder}
 use Rattle.capture_core.specs.Indexed.{url_of}
-use Rattle.index_core.specs.Accepted.{IsCaptureFrom}
-use Rattle.index_core.specs.Form.{Stored, WalksOver, end_of, plain, plain_record}
+use Rattle.archives.specs.Captures.{IsCaptureFrom}
+use Rattle.archives.specs.Form.{Stored, WalksOver, end_of, plain, plain_record}
 use Rattle.index_core.specs.Laws.{IsIndexed}
 use Rattle.index_core.proofs.ArchiveWalks.{from_start}
-use Rattle.index_core.proofs.PlainLemmas.{heads_of, plain_read, plain_walk}
-use Rattle.index_core.proofs.RecordWalks.{walks_more}
+use Rattle.archives.proofs.PlainLemmas.{heads_of, plain_read, plain_walk}
+use Rattle.archives.proofs.RecordWalks.{walks_more}
 
 joined_in : {X : Type 0} (x : X) (us vs : List X) → IsIn x (us ++ vs) → IsIn x us ⊎ IsIn x vs
 joined_in x [] vs i = grind arith

@@ -1,8 +1,7 @@
 pub mod Words
 mod ArchiveWalks
-pub mod RecordWalks
-pub mod PlainLemmas
 mod PlainArchives
+pub mod ComingLemmas
 pub mod ReportLemmas
 pub mod ListingLemmas
 pub mod VerdictLemmas

@@ -2,9 +2,9 @@
 use Rattle.index_core.proofs.Words.{◌≡◌, ℕ, ◌≤◌, Bool, List, [], ◌∷◌, None, Some, Ok, arith, AllByRecursion, Kind}
 use Rattle.index_core.proofs.Words.{EntryValue, Limits, IsTaken, AreCaptured}
 use Rattle.warc_core.proofs.LimitLemmas.{reading_stays}
-use Rattle.index_core.specs.Form.{Stored, ConsistsOf, WalksOver, end_of, plain}
+use Rattle.archives.specs.Form.{Stored, ConsistsOf, WalksOver, end_of, plain}
 use Rattle.index_core.specs.Laws.{WholeStays, CapturesStay}
-use Rattle.index_core.proofs.PlainLemmas.{plain_end, plain_ends, plain_read, plain_reads}
+use Rattle.archives.proofs.PlainLemmas.{plain_end, plain_ends, plain_read, plain_reads}
 
 module _ (low high : ℕ) (up : low ≤ high) where
   next_stays : (start : ℕ) (bytes rest : List ℕ) (r : Stored) → (plain low).next start bytes ≡ Ok (Some r, rest)

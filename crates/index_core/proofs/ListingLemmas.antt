@@ -1,10 +1,11 @@
 -- What a listing says of a record, and what it counts.
 use Rattle.index_core.proofs.Words.{ℕ, ◌≡◌, ◌+◌, List, [], ◌∷◌, length, length-append, arith, ap, sym}
-use Rattle.index_core.proofs.Words.{HeadView, Ok, Option, Reads, Some, refl}
-use Rattle.warc_core.specs.Walk.{record_at}
-use Rattle.index_core.specs.Form.{ComesRecord, Placed, Stored, placed_of, plain, plain_placed, plain_record}
+use Rattle.index_core.proofs.Words.{Option}
+use Rattle.std.specs.Bool.{⊤}
+use Rattle.archives.specs.Form.{Form, ComesRecord, Placed, Stored, placed_of}
+use Rattle.archives.specs.Walking.{ComesAt}
 use Rattle.index_core.specs.Listing.{record_line, listing_line, record_count}
-use Rattle.index_core.proofs.PlainLemmas.{plain_comes, some_of}
+use Rattle.index_core.proofs.ComingLemmas.{ComesRecord-map}
 use Rattle.index_core.proofs.ReportLemmas.{Tells, Wording}
 
 abbrev pub listing : Wording ℕ Placed
@@ -23,10 +24,9 @@ one_record p n r same = record {
   counts = λ records k. omega (arith, k, length-append records (r ∷ []));
 }
 
--- a record that a reader of plain archives answers is listed
-pub listed : (limit offset : ℕ) (h : HeadView) (n : ℕ) (before after : Option (List ℕ))
-    → Reads (record_at limit offset) (Ok (Some h)) before after
-    → ComesRecord (plain limit) offset (plain_placed h)
-    (Tells listing_line record_count (record_line (plain_placed h)) n (n + 1)) before after
-listed limit offset h n before after r =
-    plain_comes limit offset h _ before after r (some_of before (λ bytes. one_record (plain_placed h) n (plain_record h bytes) refl))
+-- a record that an archive answers is listed
+pub listed : (form : Form) (offset : ℕ) (p : Placed) (n : ℕ) (before after : Option (List ℕ))
+    → ComesAt form offset p (λ r. ⊤) before after
+    → ComesRecord form offset p (Tells listing_line record_count (record_line p) n (n + 1)) before after
+listed form offset p n before after c =
+    ComesRecord-map form offset p _ _ before after (λ r same t. one_record p n r same) c.comes

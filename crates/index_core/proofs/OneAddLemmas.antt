@@ -6,14 +6,15 @@ use Rattle.index_core.proofs.Words.{AreCaptured, IsTaken, IsAcceptedTo, IsFailur
 use Rattle.capture_core.specs.declared.fault.CaptureFault.TheVariants.{LineTooLong, KeyTooLong}
 use Rattle.capture_core.proofs.Captures.{one_capture}
 use Rattle.index_core.specs.Adding.{Adds}
-use Rattle.index_core.specs.Form.{Form, Stored, WalksOver, plain}
+use Rattle.archives.specs.Form.{Form, Stored, WalksOver}
+use Rattle.archives.specs.Packing.{form_to}
 use Rattle.index_core.specs.Indexing.{Held}
 use Rattle.index_core.specs.Laws.{IsNoFaultOfArchive}
 use Rattle.index_core.specs.OneText.{HasFirst, AddsOneList, AddsFirst, WritesOneIndex}
 use Rattle.index_core.specs.OneText.{WritesIndexFront}
 use Rattle.index_core.proofs.AcceptedLemmas.{all_taken, as_whole, captured_once, each_behind}
 use Rattle.index_core.proofs.AcceptedLemmas.{no_long_line, not_refused, one_accepted}
-use Rattle.index_core.proofs.RecordWalks.{GoesOnFrom, two_walks, walk_extends}
+use Rattle.archives.proofs.RecordWalks.{GoesOnFrom, two_walks, walk_extends}
 use Rattle.index_core.proofs.OneTextLemmas.{grown, has_front, found}
 use Rattle.index_core.specs.declared.fault.IndexFault.TheVariants as faults
 
@@ -125,10 +126,12 @@ module _ (types : Kind → Bool) (limits : Limits) (form : Form) (name archive :
   added_first old new other this that i j x y = grind arith
 
 pub adds_one_list : AddsOneList
-adds_one_list types limits limit name archive = adds_once types limits (plain limit) name archive
+adds_one_list types limits limit packing name archive =
+    adds_once types limits (form_to limit packing) name archive
 
 pub adds_first : AddsFirst
-adds_first types limits limit name archive = added_first types limits (plain limit) name archive
+adds_first types limits limit packing name archive =
+    added_first types limits (form_to limit packing) name archive
 
 -- ---- the index that is written
 

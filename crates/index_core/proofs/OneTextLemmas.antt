@@ -4,15 +4,16 @@ use Rattle.index_core.proofs.Words.{Result, Ok, Err, refl, ap, sym, arith, Appen
 use Rattle.index_core.proofs.Words.{Fault, Archive, IndexFault}
 use Rattle.index_core.proofs.Words.{IsFailure, IsOfArchive}
 use Rattle.warc_core.specs.Reading.{IsPossibleCause}
-use Rattle.index_core.specs.Form.{Form, Stored, BreaksAfter, ConsistsOf, IsLawful, IsPossibleFault, WalksOver, plain}
+use Rattle.archives.specs.Form.{Form, Stored, BreaksAfter, ConsistsOf, IsLawful, IsPossibleFault, WalksOver}
+use Rattle.archives.specs.Packing.{form_to}
 use Rattle.index_core.specs.OneText.{HasFront, HasCut, HasPart, ListsOneText, ListsPart}
 use Rattle.index_core.specs.OneText.{VerifiesOneText, VerifiesPart}
 use Rattle.index_core.specs.Report.{IsNoDamage, RecordLine, IsReport, Reports, report_lines}
 use Rattle.index_core.specs.Report.{fault_line}
 use Rattle.index_core.specs.Listing.{listing_line, record_count}
 use Rattle.index_core.specs.Verifying.{verification_line, verified_in}
-use Rattle.index_core.proofs.PlainLemmas.{plain_lawful}
-use Rattle.index_core.proofs.RecordWalks.{not_both, one_fault, one_list}
+use Rattle.archives.proofs.PackingLemmas.{forms_lawful}
+use Rattle.archives.proofs.RecordWalks.{not_both, one_fault, one_list}
 use Rattle.index_core.proofs.ReportLemmas.{report_behind}
 use Rattle.index_core.specs.declared.fault.IndexFault.TheVariants as faults
 
@@ -125,19 +126,21 @@ module _ (A : Type 0) (form : Form) (line : RecordLine) (tally : List Stored →
     reports_part this that text other i j r s = grind arith
 
 pub lists_one_text : ListsOneText
-lists_one_text limit archive before this that text other i j r s =
-    reports_one _ (plain limit) listing_line record_count archive before this that text other i j r.report s.report
+lists_one_text limit packing archive before this that text other i j r s =
+    reports_one _ (form_to limit packing) listing_line record_count archive before this that text other i j r.report
+    s.report
 
 pub lists_part : ListsPart
-lists_part limit archive before this that text other i j r s =
-    reports_part _ (plain limit) listing_line record_count archive before (plain_lawful limit) this that text other i j
-    r.report s.report
+lists_part limit packing archive before this that text other i j r s =
+    reports_part _ (form_to limit packing) listing_line record_count archive before (forms_lawful limit packing) this
+    that text other i j r.report s.report
 
 pub verifies_one_text : VerifiesOneText
-verifies_one_text limit archive before this that text other i j r s =
-    reports_one _ (plain limit) verification_line verified_in archive before this that text other i j r.report s.report
+verifies_one_text limit packing archive before this that text other i j r s =
+    reports_one _ (form_to limit packing) verification_line verified_in archive before this that text other i j r.report
+    s.report
 
 pub verifies_part : VerifiesPart
-verifies_part limit archive before this that text other i j r s =
-    reports_part _ (plain limit) verification_line verified_in archive before (plain_lawful limit) this that text other
-    i j r.report s.report
+verifies_part limit packing archive before this that text other i j r s =
+    reports_part _ (form_to limit packing) verification_line verified_in archive before (forms_lawful limit packing) this
+    that text other i j r.report s.report

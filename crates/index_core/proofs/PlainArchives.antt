@@ -1,10 +1,10 @@
 -- A plain archive is its records, one after another.
 use Rattle.index_core.proofs.Words.{◌≡◌, ◌∙◌, ℕ, List, [], ◌∷◌, ◌++◌, ap, drop, none_at_end, refl, sym}
-use Rattle.index_core.specs.Form.{Stored, WalksOver, end_of, plain, plain_record}
+use Rattle.archives.specs.Form.{Stored, WalksOver, end_of, plain, plain_record}
 use Rattle.index_core.specs.Laws.{PlainIsDamaged, PlainIsWhole, records_of}
 use Rattle.index_core.proofs.ArchiveWalks.{from_start}
-use Rattle.index_core.proofs.PlainLemmas.{heads_of, plain_end, plain_fault, plain_read, plain_walk}
-use Rattle.index_core.proofs.RecordWalks.{walks_more}
+use Rattle.archives.proofs.PlainLemmas.{heads_of, plain_end, plain_fault, plain_read, plain_walk}
+use Rattle.archives.proofs.RecordWalks.{walks_more}
 
 module _ (limit : ℕ) (archive : List ℕ) where
   -- the records of a walk are those of their heads

@@ -1,16 +1,16 @@
 -- A report on an archive, one record further, at the end, and at a fault.
 use Rattle.index_core.proofs.Words.{arith, ◌≡◌, ℕ, List, [], ◌∷◌, ◌++◌, inl, inr, Option, None}
 use Rattle.index_core.proofs.Words.{Some, Result, Ok, Err, IfSome, ap, refl, subst, sym, append-nil}
-use Rattle.index_core.proofs.Words.{append_assoc, Appends, prepend_known, Fault, AppendsPrefix}
+use Rattle.index_core.proofs.Words.{append_assoc, Appends, Fault, AppendsPrefix}
 use Rattle.index_core.proofs.Words.{Appends-none, Appends-join, Archive, IndexFault}
 use Rattle.std.proofs.lemmas.List.Concat.{flat_map-append}
 use Rattle.std.specs.List.{flat_map}
 use Rattle.devices.proofs.DeviceLemmas.{AppendsPrefix-behind}
-use Rattle.index_core.specs.Form.{Form, Placed, Stored, Comes, ComesRecord, Follow, IsLawful, StandsFrom, WalksOver}
-use Rattle.index_core.specs.Form.{end_of}
+use Rattle.archives.specs.Form.{Form, Placed, Stored, Comes, ComesRecord, Follow, IsLawful, StandsFrom, WalksOver}
+use Rattle.archives.specs.Form.{end_of}
 use Rattle.index_core.specs.Report.{IsReport, RecordLine, Reports, ReportedInPart}
 use Rattle.index_core.specs.Report.{ReportsRecords, WritesFault, fault_line, report_lines}
-use Rattle.index_core.proofs.RecordWalks.{total, walk_extends, walks_more}
+use Rattle.archives.proofs.RecordWalks.{total, walk_extends, walks_more}
 use Rattle.warc_core.specs.declared.fault.Cause.TheVariants as causes
 use Rattle.index_core.specs.declared.fault.IndexFault.TheVariants as faults
 
@@ -121,7 +121,12 @@ follow_push : {X : Type 0} (form : Form) (law : IsLawful form) (placed : X → P
     (x : X) → Follow form placed from read o → StandsFrom form o (placed x)
     → Follow form placed from (read ++ x ∷ []) (end_of (placed x).place)
 follow_push form law placed from [] o x h b = (
-  record { follows = law.further from o (placed x).place.offset h b.follows; stands = b.stands; fits = b.fits },
+  record {
+    follows = law.further from o (placed x).place.offset h b.follows;
+    stands = b.stands;
+    filled = b.filled;
+    fits = b.fits;
+  },
   law.here (end_of (placed x).place),
 )
 follow_push form law placed from (y ∷ read) o x h b =
@@ -178,7 +183,7 @@ module _ {A X : Type 0} (form : Form) (words : Wording A X) (o : ℕ) (x : A) (w
 
 nothing_written : {A X : Type 0} (form : Form) (words : Wording A X) (left w : Option (List ℕ)) (x : A)
     → x ≡ words.tally []
-    → IfSome left (λ archive. Written form words archive (prepend_known [] left) 0 x w w)
+    → IfSome left (λ archive. Written form words archive left 0 x w w)
 nothing_written form words None w x t = tt
 nothing_written form words (Some archive) w x t = record {
   written = [];
@@ -188,11 +193,6 @@ nothing_written form words (Some archive) w x t = record {
   tally_is = t;
   lines = Appends-none w;
 }
-
-no_memory : (form : Form) (left : Option (List ℕ)) (fault : Fault) → fault.cause ≡ causes.Memory
-    → form.Follows 0 fault.offset → Comes form 0 (Err fault) (prepend_known [] left) left
-no_memory form None fault e at = tt
-no_memory form (Some archive) fault e at = (at, inl e)
 
 module _ {A X : Type 0} {form : Form} {words : Wording A X} {left now : Option (List ℕ)} {o : ℕ} {x : A}
     {w v : Option (List ℕ)} (law : IsLawful form) (s : Reporting form words left now o x w v) where
@@ -258,22 +258,13 @@ module _ {A X : Type 0} {form : Form} {words : Wording A X} {left now : Option (
   reporting_fault fault given after u k k' r e h = grind arith
 
 module _ {A X : Type 0} (form : Form) (law : IsLawful form) (words : Wording A X) where
-  pub reporting_start : (left w : Option (List ℕ)) (x : A) → x ≡ words.tally [] → x ≡ words.read_tally []
-      → Reporting form words left (prepend_known [] left) 0 x w w
-  reporting_start left w x t k = record {
+  -- nothing was read yet
+  pub reporting_start : (left w : Option (List ℕ)) (o : ℕ) (x : A) → o ≡ 0 → x ≡ words.tally []
+      → x ≡ words.read_tally [] → Reporting form words left left o x w w
+  reporting_start left w o x at t k = rw at (record {
     known = nothing_written form words left w x t;
     read = [];
     follow = law.here 0;
     answer_is = k;
     text = Appends-none w;
-  }
-
-  -- there was no memory for a reader
-  pub reporting_none : (fault : Fault) (given : IndexFault) (left w u : Option (List ℕ)) (x : A) (k k' : ℕ)
-      → x ≡ words.tally [] → x ≡ words.read_tally []
-      → fault ≡ record { offset = 0; cause = causes.Memory } → WritesFault fault given w u k k'
-      → Owes form words left (Err given) w u
-  reporting_none fault given left w u x k k' t r e h =
-      let at : form.Follows 0 fault.offset = subst (form.Follows 0) (sym (ap (λ f. f.offset) e)) (law.here 0) in
-      reporting_fault law (reporting_start left w x t r) fault given left u k k'
-      (no_memory form left fault (ap (λ f. f.cause) e) at) at h
+  })

@@ -12,9 +12,8 @@ use Rattle.cdxj_places.specs.Places.{place_cmp}
 use Rattle.cdxj_places.proofs.RisingLaws.{each_join, each_weaker}
 use Rattle.capture_core.specs.CaptureAnswer.{IsEntryOf}
 use Rattle.capture_core.specs.declared.place.Place.{Place}
-use Rattle.index_core.specs.Form.{end_of}
-use Rattle.index_core.specs.Indexing.{HaveOwnPlaces, AreSound}
-use Rattle.index_core.specs.Captures.{StandBefore}
+use Rattle.archives.specs.Form.{end_of}
+use Rattle.index_core.specs.Indexing.{HaveOwnPlaces, AreSound, StandBefore}
 
 -- ---- places
 

@@ -6,7 +6,7 @@ use Rattle.capture_core.specs.declared.fault.CaptureFault.{CaptureFault}
 use Rattle.capture_core.specs.CaptureAnswer.{Limits}
 use Rattle.index_core.specs.declared.fault.IndexFault.{IndexFault}
 use Rattle.index_core.specs.declared.fault.IndexFault.TheVariants as faults
-use Rattle.index_core.specs.Form.{Form}
+use Rattle.archives.specs.Form.{Form}
 use Rattle.index_core.specs.Accepted.{IsAccepted, IsAcceptedTo}
 use Rattle.index_core.specs.Indexing.{Held, AreNamed}
 

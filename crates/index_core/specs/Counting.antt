@@ -2,17 +2,11 @@
 use Rattle.std.specs.Prelude.{◌≡◌, ◌⊎◌, ℕ, Result, Ok, Err}
 use Rattle.devices.specs.Device.{next_count}
 use Rattle.warc_core.specs.Answers.{CountsRead}
-use Rattle.capture_core.specs.declared.fault.CaptureFault.{CaptureFault}
 use Rattle.capture_core.specs.declared.fault.CaptureFault.TheVariants.{Archive}
 use Rattle.index_core.specs.declared.fault.IndexFault.{IndexFault}
 use Rattle.index_core.specs.declared.fault.IndexFault.TheVariants as faults
 
 -- An answer of Read goes with one more failure of the input, any other with none.
-abbrev pub CountsCapture : {A : Type 0} → Result A CaptureFault → ℕ → ℕ → Type 0
-CountsCapture (Err (Archive f)) old new = CountsRead {A = Unit {0}} (Err f.cause) old new
-CountsCapture r old new = new ≡ old
-
--- the same of any call on an archive
 abbrev pub CountsIndex : {A : Type 0} → Result A IndexFault → ℕ → ℕ → Type 0
 CountsIndex (Err (faults.Capture (Archive f))) old new = CountsRead {A = Unit {0}} (Err f.cause) old new
 CountsIndex r old new = new ≡ old

@@ -13,7 +13,7 @@ use Rattle.index_core.specs.declared.fault.IndexFault.{IndexFault}
 use Rattle.index_core.specs.declared.fault.IndexFault.TheVariants as faults
 use Rattle.index_core.specs.Fetching.{AreRecordsTo, IsRecordOf, IsTextAt, Fetches}
 use Rattle.index_core.specs.FetchingAt.{FetchesAt}
-use Rattle.index_core.specs.Form.{plain}
+use Rattle.archives.specs.Form.{plain}
 use Rattle.index_core.specs.Laws.{IsIndexed}
 use Rattle.index_core.specs.Report.{IsNoDamage}
 

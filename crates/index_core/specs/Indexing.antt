@@ -47,6 +47,10 @@ HaveOwnPlaces (e ∷ captures) = AllByRecursion (λ other. place_cmp (entry_plac
 abbrev pub AreNamed : List ℕ → List EntryValue → Type 0
 AreNamed name captures = AllByRecursion (λ e. e.filename ≡ name) captures
 
+-- each capture of that name stands before the offset
+abbrev pub StandBefore : List ℕ → ℕ → List EntryValue → Type 0
+StandBefore name offset captures = AllByRecursion (λ e. e.filename ≡ name → e.offset < offset) captures
+
 -- What always holds of the captures of archives of these names.
 pub record AreSound (limit : ℕ) (names : List (List ℕ)) (captures : List EntryValue) : Type 0 where
   pub places : HaveOwnPlaces captures

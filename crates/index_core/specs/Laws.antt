@@ -8,20 +8,23 @@ use Rattle.capture_core.specs.declared.fault.CaptureFault.{CaptureFault}
 use Rattle.capture_core.specs.declared.fault.CaptureFault.TheVariants.{Archive, LineTooLong, KeyTooLong}
 use Rattle.capture_core.specs.CaptureAnswer.{Limits}
 use Rattle.index_core.specs.declared.fault.IndexFault.{IndexFault}
-use Rattle.index_core.specs.Accepted.{IsAccepted, IsAcceptedTo, IsAcceptedWhole, IsCaptureFrom}
+use Rattle.archives.specs.Captures.{IsCaptureFrom}
+use Rattle.index_core.specs.Accepted.{IsAccepted, IsAcceptedTo, IsAcceptedWhole}
 use Rattle.warc_core.specs.declared.fault.Fault.{Fault}
 use Rattle.warc_core.specs.Walk.{AreRecords, IsDamaged}
-use Rattle.index_core.specs.Form.{BreaksAfter, ConsistsOf, Form, Stored, plain, plain_record}
+use Rattle.archives.specs.Packing.{Packing, form_to}
+use Rattle.archives.specs.Form.{BreaksAfter, ConsistsOf, Form, Stored, plain, plain_record}
 use Rattle.index_core.specs.Fetching.{IsRecordOf, StandsIn}
 use Rattle.index_core.specs.Report.{IsNoDamage}
 
 -- an archive is accepted with one list of captures
 abbrev pub OneIndexed : Type 0
-OneIndexed = (types : Kind → Bool) (limits : Limits) (limit : ℕ) (name archive : List ℕ) (these those : List EntryValue)
-    → IsAccepted types limits (plain limit) name archive these → IsAccepted types limits (plain limit) name archive those → these
-    ≡ those
+OneIndexed = (types : Kind → Bool) (limits : Limits) (limit : ℕ) (packing : Packing) (name archive : List ℕ)
+    (these those : List EntryValue)
+    → IsAccepted types limits (form_to limit packing) name archive these
+    → IsAccepted types limits (form_to limit packing) name archive those → these ≡ those
 
--- up to a fault's offset it is too
+-- up to a fault's offset a plain archive is too
 abbrev pub OneIndexedTo : Type 0
 OneIndexedTo = (types : Kind → Bool) (limits : Limits) (limit : ℕ) (name archive : List ℕ) (fault : CaptureFault)
     (these those : List EntryValue)
@@ -37,16 +40,17 @@ IsNoFaultOfArchive (KeyTooLong offset) = ⊤
 -- an archive that is accepted whole is refused for want of memory, by its input's failure or for a key that is too
 -- long, and no other cause
 abbrev pub WholeIsNotRefused : Type 0
-WholeIsNotRefused = (types : Kind → Bool) (limits : Limits) (limit : ℕ) (name archive : List ℕ)
+WholeIsNotRefused = (types : Kind → Bool) (limits : Limits) (limit : ℕ) (packing : Packing) (name archive : List ℕ)
     (gained : List EntryValue) (fault : CaptureFault)
-    → IsAcceptedWhole types limits (plain limit) name archive → IsAcceptedTo types limits (plain limit) name fault archive gained
-    → IsNoFaultOfArchive fault
+    → IsAcceptedWhole types limits (form_to limit packing) name archive
+    → IsAcceptedTo types limits (form_to limit packing) name fault archive gained → IsNoFaultOfArchive fault
 
 -- an archive that is accepted with captures is accepted whole
 abbrev pub AcceptedIsWhole : Type 0
-AcceptedIsWhole = (types : Kind → Bool) (limits : Limits) (limit : ℕ) (name archive : List ℕ)
+AcceptedIsWhole = (types : Kind → Bool) (limits : Limits) (limit : ℕ) (packing : Packing) (name archive : List ℕ)
     (captures : List EntryValue)
-    → IsAccepted types limits (plain limit) name archive captures → IsAcceptedWhole types limits (plain limit) name archive
+    → IsAccepted types limits (form_to limit packing) name archive captures
+    → IsAcceptedWhole types limits (form_to limit packing) name archive
 
 -- one thing stands at an offset of an archive
 abbrev pub OneStands : Type 0

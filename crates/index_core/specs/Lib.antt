@@ -1,20 +1,26 @@
-pub mod Form
 pub mod Report
 pub mod Listing
 pub mod Verifying
 pub mod Indexing
 pub mod Accepted
-pub mod Captures
 pub mod Adding
 pub mod FaultNames
 pub mod Fetching
 pub mod FetchingAt
+pub mod FetchingIn
 pub mod Copying
 pub mod Counting
 pub mod Laws
 pub mod FetchingLaws
 pub mod OneText
 pub mod Limits
+-- what contracts see of archives
+pub use Rattle.archives.specs.Captures
+pub use Rattle.archives.specs.Form
+pub use Rattle.archives.specs.Packing
+pub use Rattle.archives.specs.Plain
+pub use Rattle.archives.specs.State
+pub use Rattle.archives.specs.Walking
 -- what contracts see of records
 pub use Rattle.warc_core.specs.Answers
 pub use Rattle.warc_core.specs.HeadView

@@ -2,7 +2,7 @@
 use Rattle.std.specs.Prelude.{ℕ, List, ◌++◌, length, Option, Result, codes, decimal}
 use Rattle.warc_core.specs.Kind.{kind_name}
 use Rattle.index_core.specs.declared.fault.IndexFault.{IndexFault}
-use Rattle.index_core.specs.Form.{Form, Placed, Stored, placed_of}
+use Rattle.archives.specs.Form.{Form, Placed, Stored, placed_of}
 use Rattle.index_core.specs.Report.{Reports, ReportsRecords}
 
 -- `OFFSET LENGTH KIND`

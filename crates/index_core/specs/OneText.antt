@@ -11,7 +11,7 @@ use Rattle.index_core.specs.declared.fault.IndexFault.TheVariants as faults
 use Rattle.index_core.specs.Adding.{Adds, with_archive}
 use Rattle.index_core.specs.Fetching.{Fetches, IsMetBefore}
 use Rattle.index_core.specs.FetchingAt.{FetchesAt}
-use Rattle.index_core.specs.Form.{plain}
+use Rattle.archives.specs.Packing.{Packing, form_to}
 use Rattle.index_core.specs.Indexing.{Held, index_text}
 use Rattle.index_core.specs.Laws.{IsNoFaultOfArchive}
 use Rattle.index_core.specs.Listing.{Lists}
@@ -64,16 +64,20 @@ PromisesPart {A} promise = (before : List ℕ) (this that : Result A IndexFault)
 
 -- of a report on an archive there is one text
 abbrev pub ListsOneText : Type 0
-ListsOneText = (limit : ℕ) (archive : List ℕ) → PromisesOneText (Lists (plain limit) (Some archive))
+ListsOneText = (limit : ℕ) (packing : Packing) (archive : List ℕ)
+    → PromisesOneText (Lists (form_to limit packing) (Some archive))
 
 abbrev pub ListsPart : Type 0
-ListsPart = (limit : ℕ) (archive : List ℕ) → PromisesPart (Lists (plain limit) (Some archive))
+ListsPart = (limit : ℕ) (packing : Packing) (archive : List ℕ)
+    → PromisesPart (Lists (form_to limit packing) (Some archive))
 
 abbrev pub VerifiesOneText : Type 0
-VerifiesOneText = (limit : ℕ) (archive : List ℕ) → PromisesOneText (Verifies (plain limit) (Some archive))
+VerifiesOneText = (limit : ℕ) (packing : Packing) (archive : List ℕ)
+    → PromisesOneText (Verifies (form_to limit packing) (Some archive))
 
 abbrev pub VerifiesPart : Type 0
-VerifiesPart = (limit : ℕ) (archive : List ℕ) → PromisesPart (Verifies (plain limit) (Some archive))
+VerifiesPart = (limit : ℕ) (packing : Packing) (archive : List ℕ)
+    → PromisesPart (Verifies (form_to limit packing) (Some archive))
 
 -- ---- the record at an offset
 
@@ -120,11 +124,11 @@ FetchesAtFront = (limit offset len : ℕ) (archive : List ℕ)
 
 -- An archive adds one list of captures to what is held, with one answer.
 abbrev pub AddsOneList : Type 0
-AddsOneList = (types : Kind → Bool) (limits : Limits) (limit : ℕ) (name archive : List ℕ) (old new other : Held)
-    (this that : Result ℕ IndexFault)
+AddsOneList = (types : Kind → Bool) (limits : Limits) (limit : ℕ) (packing : Packing) (name archive : List ℕ)
+    (old new other : Held) (this that : Result ℕ IndexFault)
     → IsOfArchive this → IsOfArchive that
-    → Adds types limits (plain limit) name (Some archive) old new this
-    → Adds types limits (plain limit) name (Some archive) old other that → (this ≡ that) × (new ≡ other)
+    → Adds types limits (form_to limit packing) name (Some archive) old new this
+    → Adds types limits (form_to limit packing) name (Some archive) old other that → (this ≡ that) × (new ≡ other)
 
 -- the first of the captures that the one added, by the answer of the other
 abbrev pub HasFirst : List ℕ → Held → Held → Held → Result ℕ IndexFault → Type 0
@@ -134,11 +138,11 @@ HasFirst name old whole part result = part ≡ old
 
 -- If an addition fails, it has added the first of them, or nothing.
 abbrev pub AddsFirst : Type 0
-AddsFirst = (types : Kind → Bool) (limits : Limits) (limit : ℕ) (name archive : List ℕ) (old new other : Held)
-    (this that : Result ℕ IndexFault)
+AddsFirst = (types : Kind → Bool) (limits : Limits) (limit : ℕ) (packing : Packing) (name archive : List ℕ)
+    (old new other : Held) (this that : Result ℕ IndexFault)
     → IsOfArchive this → IsFailure that
-    → Adds types limits (plain limit) name (Some archive) old new this
-    → Adds types limits (plain limit) name (Some archive) old other that → HasFirst name old new other that
+    → Adds types limits (form_to limit packing) name (Some archive) old new this
+    → Adds types limits (form_to limit packing) name (Some archive) old other that → HasFirst name old new other that
 
 -- the index of the captures that are held is one text
 abbrev pub WritesOneIndex : Type 0

@@ -12,7 +12,7 @@ use Rattle.warc_core.specs.HeadView.{HeadView, record_length}
 use Rattle.warc_core.specs.ReaderView.{ReaderView, StandsAt}
 use Rattle.capture_core.specs.declared.fault.CaptureFault.TheVariants.{Archive}
 use Rattle.index_core.specs.declared.fault.IndexFault.{IndexFault}
-use Rattle.index_core.specs.Form.{Form, Placed, Stored, BreaksAfter, ConsistsOf, Follow, IsPossibleFault, WalksOver}
+use Rattle.archives.specs.Form.{Form, Placed, Stored, BreaksAfter, ConsistsOf, Follow, IsPossibleFault, WalksOver}
 use Rattle.index_core.specs.declared.fault.IndexFault.TheVariants as faults
 
 -- what a report says of a record

@@ -1,24 +1,14 @@
 -- The verification of an archive: the digest of each block against the one that its record gives.
-use Rattle.std.specs.Prelude.{ℕ, List, ◌++◌, length, Option, Result, Ok, Err, option_map, codes, decimal}
+use Rattle.std.specs.Prelude.{ℕ, List, ◌++◌, length, Option, Result, codes, decimal}
 use Rattle.std.specs.List.{sum_by}
-use Rattle.warc_core.specs.Fields.{value_of}
-use Rattle.warc_core.specs.declared.fault.Fault.{Fault}
-use Rattle.warc_core.specs.HeadView.{HeadView}
 use Rattle.warc_core.specs.declared.verdict.Verdict.{Verdict}
 use Rattle.warc_core.specs.declared.verdict.Verdict.TheVariants as verdicts
-use Rattle.capture_core.specs.BlockDigest.{verdict_of, verdict_name}
+use Rattle.capture_core.specs.BlockDigest.{verdict_name}
 use Rattle.index_core.specs.declared.fault.IndexFault.{IndexFault}
 use Rattle.index_core.specs.declared.verified.Verified.{Verified}
-use Rattle.index_core.specs.Form.{Form, Placed, Stored}
+use Rattle.archives.specs.Form.{Form, Stored}
+use Rattle.archives.specs.Walking.{Judged, verdict_in}
 use Rattle.index_core.specs.Report.{Reports, ReportsRecords}
-
--- what the head says of a block
-abbrev pub verdict_on : HeadView → List ℕ → Verdict
-verdict_on h block = verdict_of (value_of (codes "WARC-Block-Digest") h.parts.fields) block
-
--- the verdict on a record
-abbrev pub verdict_in : Stored → Verdict
-verdict_in r = verdict_on r.head r.block
 
 -- `OFFSET VERDICT`
 unfoldable pub verdict_line : ℕ → Verdict → List ℕ
@@ -41,10 +31,6 @@ differing_in records = sum_by (λ r. differing_by (verdict_in r)) records
 abbrev pub verified_in : List Stored → Verified
 verified_in records = record { records = length records; differing = differing_in records }
 
--- a record with a verdict on its block
-abbrev pub Judged : Type 0
-Judged = Placed × Verdict
-
 abbrev pub judged_line : Judged → List ℕ
 judged_line judged = verdict_line judged.0.place.offset judged.1
 
@@ -56,8 +42,3 @@ pub record Verifies (form : Form) (left : Option (List ℕ)) (answer : Result Ve
     (before after : Option (List ℕ)) : Type 0 where
   pub report : Reports form verification_line verified_in left answer before after
   pub records : ReportsRecords form (λ j. j.0) judged_line verified_of answer before after
-
--- an answer without its verdicts
-abbrev pub heads_of : Result (Option (HeadView × Verdict)) Fault → Result (Option HeadView) Fault
-heads_of (Ok judged) = Ok (option_map (λ j. j.0) judged)
-heads_of (Err f) = Err f

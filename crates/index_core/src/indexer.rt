@@ -3,11 +3,12 @@ use crate::captures::add_captures;
 use crate::fault::IndexFault;
 use crate::index_lines::put_index;
 use crate::names::{Names, is_name};
+use archives::Archive;
 use capture_core::{BlockStart, HeldLine, Types};
 use std::alloc::Global;
 use std::fmt;
 use std::marker::Model;
-use warc_core::{Input, Output};
+use warc_core::Output;
 
 /// Collects the captures of archives, and writes them as an index.
 #[derive(Drop)]
@@ -45,12 +46,12 @@ impl Indexer {
     ghost use Rattle.cdxj_core.specs.Indexes.{IsIndex};
     ghost use Rattle.cdxj_core.specs.Members.{entry_member};
     ghost use Rattle.devices.specs.Writing.{WritesText};
-    ghost use Rattle.warc_core.specs.declared.next.TheConstants.{HEAD_LIMIT};
     ghost use Rattle.capture_core.specs.Types.{includes};
     ghost use Rattle.capture_core.specs.CaptureAnswer.{usual_limits};
+    ghost use Rattle.archives.specs.Packing.{form_of};
+    ghost use Rattle.archives.specs.State.{IsUnread};
     ghost use Rattle.index_core.specs.Adding.{Adds, IsAddFault, IsRefusal};
     ghost use Rattle.index_core.specs.Counting.{CountsIndex, CountsIndexWrite};
-    ghost use Rattle.index_core.specs.Form.{plain};
     ghost use Rattle.index_core.specs.Indexing.{IsWriteFault, IsName, is_among, index_text};
     ghost use Rattle.index_core.specs.Indexing.{in_places, AreSound};
 
@@ -68,21 +69,25 @@ impl Indexer {
     }
 
     /// Adds the captures of an archive's records of the indexer's types under the archive's name,
-    /// of 1 to 255 bytes. Returns the number of captures added.
+    /// of 1 to 255 bytes. Nothing was read of the archive before. Returns the number of captures
+    /// added.
     ///
     /// Errors are `BadName`, `DuplicateName` for a name that an earlier call has kept, and `Memory`
     /// if the name can't be kept. After these, nothing was read and nothing has changed. Any other
     /// error is `Capture`. After it, the name is kept, and with it the captures of the whole
     /// records that end at or before the fault's offset, and nothing else.
-    pub fn add<I: Input>(&mut self, name: &str, input: &mut I) -> Result<u64, IndexFault>
+    pub fn add<A: Archive>(&mut self, name: &str, archive: &mut A) -> Result<u64, IndexFault>
+        requires { IsUnread (A.state archive.old) }
         ensures bad { (result ≡ Err IndexFault.BadName) ↔ ¬ (IsName name.now) }
         ensures duplicate { (result ≡ Err IndexFault.DuplicateName)
             ↔ (IsName name.now × (is_among self.old.names name.now ≡ true)) }
-        ensures adds { Adds (includes self.old.types) usual_limits (plain HEAD_LIMIT) name.now
-            (I.remaining input.old) self.old self.new result }
+        ensures adds { Adds (includes self.old.types) usual_limits
+            (form_of (A.state archive.old).packing) name.now (A.state archive.old).ahead self.old
+            self.new result }
         ensures refusals { IfErr result IsAddFault }
-        ensures unread { IfErr result (λ fault. IsRefusal fault → input.new ≡ input.old) }
-        ensures failures { CountsIndex result (I.failures input.old) (I.failures input.new) }
+        ensures unread { IfErr result (λ fault. IsRefusal fault → archive.new ≡ archive.old) }
+        ensures failures { CountsIndex result (A.state archive.old).failures
+            (A.state archive.new).failures }
     {
         if !is_name(name) {
             return Err(IndexFault::BadName);
@@ -95,12 +100,11 @@ impl Indexer {
             Err(_) => return Err(IndexFault::Memory),
         }
         Ok(add_captures(
-            self.alloc,
             &mut self.front,
             &mut self.captures,
             name,
             self.types,
-            input,
+            archive,
         )?)
     }
 

@@ -9,8 +9,8 @@ ghost use Rattle.index_core.specs.OneText.{FetchesOneText, FetchesFront, Fetches
 ghost use Rattle.index_core.specs.OneText.{FetchesAtFront, AddsOneList, AddsFirst, WritesOneIndex};
 ghost use Rattle.index_core.specs.OneText.{WritesIndexFront};
 
-/// An archive has one list of captures, whether it is accepted whole or only up to a fault's
-/// offset.
+/// An archive of either form that is accepted whole has one list of captures. So has a plain one
+/// that is accepted only up to a fault's offset.
 pub fn archive_has_one_list_of_captures()
     ensures whole { OneIndexed }
     ensures part { OneIndexedTo }

@@ -7,6 +7,7 @@
 mod captures;
 mod copying;
 mod fault;
+mod fetch;
 mod fetching;
 mod index_lines;
 mod indexer;
@@ -20,7 +21,7 @@ mod walk;
 mod writing;
 
 pub use crate::fault::IndexFault;
-pub use crate::fetching::{get, get_at};
+pub use crate::fetch::Fetch;
 pub use crate::indexer::Indexer;
 pub use crate::laws::{
     accepted_archive_is_not_refused, accepted_archive_is_whole, accepted_archive_stays_accepted,
@@ -31,6 +32,7 @@ pub use crate::laws::{
 pub use crate::listing::list;
 pub use crate::verified::Verified;
 pub use crate::verifying::verify;
+pub use archives::{Archive, PlacedRecord, PlainArchive};
 pub use capture_core::{CaptureFault, Types, Verdict};
 pub use cdxj_core::LINE_LIMIT;
 pub use warc_core::{

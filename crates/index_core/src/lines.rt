@@ -6,26 +6,27 @@ ghost use Rattle.index_core.specs.Listing.{record_line};
 ghost use Rattle.index_core.specs.Report.{fault_line};
 ghost use Rattle.index_core.specs.Verifying.{verdict_line};
 
+use archives::PlacedRecord;
 use arrayvec::ArrayString;
-use capture_core::{Place, Verdict};
+use capture_core::Verdict;
 use itoa::Buffer;
-use warc_core::{Fault, Head};
+use warc_core::Fault;
 
 /// A line of a report, with its LF.
 pub type ReportLine = ArrayString<64>;
 
 /// Returns the line `OFFSET LENGTH KIND`.
 #[tactic(auto, unfolding(crate::specs::Listing::record_line))]
-pub fn record_line(head: &Head, place: Place) -> ReportLine
-    ensures { result.bytes ≡ record_line (record { head = head.now; place = place }) }
+pub fn record_line(placed: &PlacedRecord) -> ReportLine
+    ensures { result.bytes ≡ record_line placed.now }
 {
     let mut digits = Buffer::new();
     let mut line = ReportLine::new();
-    line.push_str(digits.format(place.offset));
+    line.push_str(digits.format(placed.place.offset));
     line.push_str(" ");
-    line.push_str(digits.format(place.length));
+    line.push_str(digits.format(placed.place.length));
     line.push_str(" ");
-    line.push_str(head.kind().name());
+    line.push_str(placed.head.kind().name());
     line.push_str("\n");
     line
 }

@@ -1,6 +1,6 @@
 -- Archives that are indexed one after another.
 use Rattle.query_core.proofs.Words.{[], ℕ, ◌++◌, ◌+◌, ◌<◌, ◌∙◌, ◌∷◌, ◌≡◌, AllZip, Bool, Err, IsIndex, LINE_LIMIT, List}
-use Rattle.query_core.proofs.Words.{None, Option, ap, append-nil, append_assoc, arith, drop, each_join, get_or, length}
+use Rattle.query_core.proofs.Words.{ap, append-nil, append_assoc, arith, drop, each_join, get_or, length}
 use Rattle.query_core.proofs.Words.{length-append, length-map, map, take}
 use Rattle.std.proofs.Common.{set}
 use Rattle.std.proofs.lemmas.List.{get_or-map, map-set, set-get_or, take_more}
@@ -11,6 +11,8 @@ use Rattle.capture_core.specs.{Types.includes, declared.types.Types.Types}
 use Rattle.merge_core.proofs.{CountLemmas.left_after, CountLemmas.left_here, Many.map_set_same}
 use Rattle.scan_core.specs.{Failures.CountsAt, Scanning.LeavesUnread, declared.fault.ScanFault.TheVariants.Archive}
 use Rattle.scan_core.specs.Archives.{AreCapturesOf, AreCapturesOfEach, AreIndexed, AreNewNames, HasIndex, HaveIndexes}
+use Rattle.archives.specs.State.{ToldArchive}
+use Rattle.scan_core.specs.Archives.{nothing_told}
 use Rattle.scan_core.specs.Archives.{HaveLines, IsFaultOfArchive, IsFirstFault, IsNameFault, IsNewName, index_members}
 
 names_push : (earlier names : List (List ℕ)) (name : List ℕ) → AreNewNames earlier names
@@ -18,8 +20,8 @@ names_push : (earlier names : List (List ℕ)) (name : List ℕ) → AreNewNames
 names_push earlier [] name h k = grind (arith, append-nil)
 names_push earlier (n ∷ names) name h k = grind (arith, append_assoc, names_push (earlier ++ n ∷ []) names name h.1)
 
-accepted_push : (types : Kind → Bool) (names : List (List ℕ)) (inputs : List (Option (List ℕ)))
-    (archives : List (List EntryValue)) (name : List ℕ) (input : Option (List ℕ)) (captures : List EntryValue)
+accepted_push : (types : Kind → Bool) (names : List (List ℕ)) (inputs : List ToldArchive)
+    (archives : List (List EntryValue)) (name : List ℕ) (input : ToldArchive) (captures : List EntryValue)
     → AreCapturesOfEach types names inputs archives → AreCapturesOf types name input captures
     → AreCapturesOfEach types (names ++ name ∷ []) (inputs ++ input ∷ []) (archives ++ captures ∷ [])
 accepted_push types (n ∷ names) (i ∷ inputs) (c ∷ archives) name input captures h k =
@@ -27,8 +29,8 @@ accepted_push types (n ∷ names) (i ∷ inputs) (c ∷ archives) name input cap
 accepted_push types names inputs archives name input captures h k = grind arith
 
 -- one archive more
-indexed_push : {types : Kind → Bool} {names : List (List ℕ)} {inputs : List (Option (List ℕ))}
-    {archives : List (List EntryValue)} {name : List ℕ} {captures : List EntryValue} (input : Option (List ℕ))
+indexed_push : {types : Kind → Bool} {names : List (List ℕ)} {inputs : List ToldArchive}
+    {archives : List (List EntryValue)} {name : List ℕ} {captures : List EntryValue} (input : ToldArchive)
     → AreIndexed types names inputs archives → IsNewName names name → AreCapturesOf types name input captures
     → HaveLines captures → AreIndexed types (names ++ name ∷ []) (inputs ++ input ∷ []) (archives ++ captures ∷ [])
 indexed_push input h new accepted lines = grind (arith, names_push, accepted_push, each_join)
@@ -44,7 +46,7 @@ indexes_push limit text (x ∷ indexes) (c ∷ archives) index captures h k =
 indexes_push limit text indexes archives index captures h k = absurd h
 
 -- Of these archives, those before the i-th are indexed, and the others are as they were
-pub record Indexing {X I : Type 0} (name : X → List ℕ) (input : X → Option (List ℕ)) (count : X → ℕ)
+pub record Indexing {X I : Type 0} (name : X → List ℕ) (input : X → ToldArchive) (count : X → ℕ)
     (text : I → List ℕ) (types : Types) (old xs : List X) (i : ℕ) (indexer : Held) (indexes : List I) : Type 0 where
   pub names : map name xs ≡ map name old
   pub rest : drop i xs ≡ drop i old
@@ -54,7 +56,7 @@ pub record Indexing {X I : Type 0} (name : X → List ℕ) (input : X → Option
   pub indexed : HaveIndexes (includes types) (take i (map name old)) (take i (map input old)) (map text indexes)
 
 -- the i-th, and y, what it is after its turn
-module _ {X I : Type 0} {name : X → List ℕ} {input : X → Option (List ℕ)} {count : X → ℕ} {text : I → List ℕ}
+module _ {X I : Type 0} {name : X → List ℕ} {input : X → ToldArchive} {count : X → ℕ} {text : I → List ℕ}
     {types : Types} {old xs : List X} {i : ℕ} {indexer : Held} {indexes : List I}
     (so_far : Indexing name input count text types old xs i indexer indexes) (inside : i < length old) (d : X) where
   shown_at : {Y : Type 0} (show : X → Y) (e : Y) → get_or (map show old) i e ≡ show (get_or xs i d)
@@ -68,7 +70,7 @@ module _ {X I : Type 0} {name : X → List ℕ} {input : X → Option (List ℕ)
     inside = rw length-map inside;
     captures = so_far.indexed.captures;
     before = so_far.indexed.indexed;
-    refused = rw (shown_at name [], shown_at input None) (rw so_far.held at h);
+    refused = rw (shown_at name [], shown_at input nothing_told) (rw so_far.held at h);
   }
 
   -- its count alone changed, as its fault says
@@ -97,7 +99,7 @@ module _ {X I : Type 0} {name : X → List ℕ} {input : X → Option (List ℕ)
   one_more y index after more same_name same_count is has pushed =
       let found = rw so_far.held at has in
       let names = take_more (map name old) i [] (rw length-map inside) in
-      let inputs = take_more (map input old) i None (rw length-map inside) in
+      let inputs = take_more (map input old) i nothing_told (rw length-map inside) in
       let lt : i < length xs = omega (arith, simp length-map at (ap length so_far.names)) in
       let before = so_far.indexed.captures in
       record {
@@ -108,7 +110,7 @@ module _ {X I : Type 0} {name : X → List ℕ} {input : X → Option (List ℕ)
         number = grind (arith, length-append);
         indexed = record {
           captures = before ++ found.captures ∷ [];
-          indexed = rw (names, inputs, shown_at name [], shown_at input None)
+          indexed = rw (names, inputs, shown_at name [], shown_at input nothing_told)
               (indexed_push _ so_far.indexed.indexed found.is_new found.accepted found.lines);
           are_indexes = rw pushed (indexes_push LINE_LIMIT text indexes before index found.captures
               so_far.indexed.are_indexes found.is_index);

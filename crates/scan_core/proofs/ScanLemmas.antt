@@ -13,6 +13,7 @@ use Rattle.scan_core.specs.{Captures.all_captures, Captures.captured_lines, Laws
 use Rattle.warc_core.specs.Kind.{Kind}
 use Rattle.index_core.proofs.SoundLemmas.{among_last, among_more}
 use Rattle.scan_core.specs.Scanning.{IsAsked, Scanned, ScannedInPart, WritesKnownPages}
+use Rattle.archives.specs.State.{ToldArchive}
 use Rattle.index_core.specs.Laws.{OneIndexed}
 use Rattle.query_core.specs.declared.fault.AnswerFault.{AnswerFault}
 
@@ -60,7 +61,7 @@ own_join earlier name (e ∷ captures) others named own new h =
     grind (arith, each_join, apart, own_join earlier name captures others named.1 own.1 new h)
 
 -- each capture of archives with new names has a place of its own, and a name that isn't an earlier one
-pub once_from : (types : Kind → Bool) (earlier names : List (List ℕ)) (inputs : List (Option (List ℕ)))
+pub once_from : (types : Kind → Bool) (earlier names : List (List ℕ)) (inputs : List ToldArchive)
     (archives : List (List EntryValue)) → AreNewNames earlier names → AreCapturesOfEach types names inputs archives
     → AllByRecursion HaveLines archives
     → HaveOwnPlaces (all_captures archives)
@@ -74,7 +75,7 @@ once_from types earlier names inputs archives new accepted lines = grind arith
 
 -- ---- what a scan wrote, from what its parts did
 
-module _ {types : Kind → Bool} {names texts : List (List ℕ)} {inputs : List (Option (List ℕ))} {sizes text : List ℕ}
+module _ {types : Kind → Bool} {names texts : List (List ℕ)} {inputs : List ToldArchive} {sizes text : List ℕ}
     {query : QueryValue} {old new : Option (List ℕ)} (asked : IsAsked sizes text (length names) query)
     (found : HaveIndexes types names inputs texts) where
   pub scanned_whole : (number : ℕ)
@@ -91,8 +92,8 @@ module _ {types : Kind → Bool} {names texts : List (List ℕ)} {inputs : List 
 -- ---- a scan of known archives writes one text
 
 -- archives that are known are accepted with one list of captures each
-one_captures : OneIndexed → (types : Kind → Bool) (names : List (List ℕ)) (inputs : List (Option (List ℕ)))
-    (archives : List (List ℕ)) (these those : List (List EntryValue)) → Known inputs archives
+one_captures : OneIndexed → (types : Kind → Bool) (names : List (List ℕ)) (inputs : List ToldArchive)
+    (archives : List (List ℕ)) (these those : List (List EntryValue)) → Known (map (λ input. input.bytes) inputs) archives
     → AreCapturesOfEach types names inputs these → AreCapturesOfEach types names inputs those → these ≡ those
 one_captures one types (name ∷ names) (input ∷ inputs) (archive ∷ archives) (c ∷ cs) (d ∷ ds) known a b =
     grind (arith, one_captures one types names inputs archives cs ds known.1 a.1 b.1)

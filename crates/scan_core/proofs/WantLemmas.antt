@@ -5,10 +5,11 @@ use Rattle.std.proofs.Common.{set}
 use Rattle.warc_core.specs.{Kind.Kind, declared.next.TheConstants.HEAD_LIMIT}
 use Rattle.devices.specs.Device.{next_count}
 use Rattle.capture_core.specs.CaptureAnswer.{usual_limits}
-use Rattle.index_core.specs.{Accepted.IsAcceptedWhole, Form.plain, Laws.WholeIsNotRefused, declared.fault.IndexFault.IndexFault}
+use Rattle.index_core.specs.{Laws.WholeIsNotRefused, declared.fault.IndexFault.IndexFault}
 use Rattle.scan_core.specs.{Failures.CountsAt, Scanning.IsScanFault, declared.fault.ScanFault.TheVariants.Archive}
-use Rattle.scan_core.specs.Archives.{AreNewNames, IsFaultOfArchive, IsNewName}
-use Rattle.scan_core.specs.Laws.{IsWantOfRoom, MayRise, OnlyMemoryIsWanting}
+use Rattle.archives.specs.State.{ToldArchive}
+use Rattle.scan_core.specs.Archives.{AreNewNames, IsFaultOfArchive, IsNewName, nothing_told}
+use Rattle.scan_core.specs.Laws.{IsToldWhole, IsWantOfRoom, MayRise, OnlyMemoryIsWanting}
 use Rattle.index_core.specs.declared.fault.IndexFault.TheVariants as index
 
 -- ---- what is known of each archive
@@ -20,17 +21,11 @@ new_at earlier (n ∷ names) (suc i) h l =
 new_at earlier names i h l = grind (arith, append-nil)
 
 -- the archive with this number is told, and accepted whole
-record ToldWhole (types : Kind → Bool) (name : List ℕ) (input : Option (List ℕ)) : Type 0 where
-  archive : List ℕ
-  told : input ≡ Some archive
-  whole : IsAcceptedWhole types usual_limits (plain HEAD_LIMIT) name archive
-
-whole_at : (types : Kind → Bool) (names : List (List ℕ)) (inputs : List (Option (List ℕ))) (archives : List (List ℕ))
-    (i : ℕ) → Known inputs archives → AllZip (IsAcceptedWhole types usual_limits (plain HEAD_LIMIT)) names archives
-    → i < length names → ToldWhole types (get_or names i []) (get_or inputs i None)
-whole_at types (n ∷ names) (o ∷ inputs) (a ∷ archives) (suc i) known whole l = whole_at types names inputs archives i
-    known.1 whole.1 (omega arith)
-whole_at types names inputs archives i known whole l = grind arith
+whole_at : (types : Kind → Bool) (names : List (List ℕ)) (inputs : List ToldArchive) (i : ℕ)
+    → AllZip (IsToldWhole types) names inputs → i < length names
+    → IsToldWhole types (get_or names i []) (get_or inputs i nothing_told)
+whole_at types (n ∷ names) (input ∷ inputs) (suc i) whole l = whole_at types names inputs i whole.1 (omega arith)
+whole_at types names inputs i whole l = grind arith
 
 -- ---- no device failed
 
@@ -43,21 +38,20 @@ stayed i [] m may l same e = absurd (omega arith)
 
 -- ---- an archive's fault
 
-module _ (whole_is_not_refused : WholeIsNotRefused) (types : Kind → Bool) (names archives : List (List ℕ))
-    (inputs : List (Option (List ℕ))) (i : ℕ) (counts : List ℕ) (new : AreNewNames [] names)
-    (known : Known inputs archives)
-    (whole : AllZip (IsAcceptedWhole types usual_limits (plain HEAD_LIMIT)) names archives) (inside : i < length names)
+module _ (whole_is_not_refused : WholeIsNotRefused) (types : Kind → Bool) (names : List (List ℕ))
+    (inputs : List ToldArchive) (i : ℕ) (counts : List ℕ) (new : AreNewNames [] names)
+    (whole : AllZip (IsToldWhole types) names inputs) (inside : i < length names)
     (may : AllByRecursion MayRise counts) where
-  archive_want : (fault : IndexFault) → IsFaultOfArchive types (take i names) (get_or names i []) (get_or inputs i None)
-      fault → CountsAt i fault counts counts → IsWantOfRoom (Archive i fault)
+  archive_want : (fault : IndexFault)
+      → IsFaultOfArchive types (take i names) (get_or names i []) (get_or inputs i nothing_told) fault
+      → CountsAt i fault counts counts → IsWantOfRoom (Archive i fault)
   archive_want (index.Capture f) h k =
-      let w = whole_at types names inputs archives i known whole inside in
+      let w = whole_at types names inputs i whole inside in
       let found = rw w.told at h.1 in
-      let no = whole_is_not_refused types usual_limits HEAD_LIMIT (get_or names i []) w.archive found.0 f w.whole
-      found.1 in grind (arith, stayed)
+      let no = whole_is_not_refused types usual_limits HEAD_LIMIT (get_or inputs i nothing_told).packing
+      (get_or names i []) w.archive found.0 f w.whole found.1 in grind (arith, stayed)
   archive_want fault h k = let fresh = new_at [] names i new inside in grind arith
 
 pub only_memory : WholeIsNotRefused → OnlyMemoryIsWanting
 unfolding IsScanFault
-only_memory law types names archives inputs sizes text fault counts count s known h may k may' k' =
-    grind (arith, archive_want)
+only_memory law types names inputs sizes text fault counts count s h may k may' k' = grind (arith, archive_want)

@@ -3,7 +3,6 @@ use Rattle.std.specs.Prelude.{◌≡◌, ℕ, ◌<◌, ⊤, Bool, List, [], ◌�
 use Rattle.std.specs.Prelude.{None, IfSome}
 use Rattle.std.specs.List.{AllByRecursion, AllZip}
 use Rattle.warc_core.specs.Kind.{Kind}
-use Rattle.warc_core.specs.declared.next.TheConstants.{HEAD_LIMIT}
 use Rattle.cdxj_core.specs.declared.limit.TheConstants.{LINE_LIMIT}
 use Rattle.cdxj_core.specs.Entries.{EntryValue, HasLine}
 use Rattle.cdxj_core.specs.Indexes.{IsIndex}
@@ -11,7 +10,8 @@ use Rattle.cdxj_core.specs.Members.{Member, entry_member}
 use Rattle.capture_core.specs.CaptureAnswer.{usual_limits}
 use Rattle.index_core.specs.declared.fault.IndexFault.{IndexFault}
 use Rattle.index_core.specs.declared.fault.IndexFault.TheVariants as index
-use Rattle.index_core.specs.Form.{plain}
+use Rattle.archives.specs.Packing.{Plain, form_of}
+use Rattle.archives.specs.State.{ToldArchive}
 use Rattle.index_core.specs.Accepted.{IsAccepted, IsAcceptedTo}
 use Rattle.index_core.specs.Indexing.{IsName, AreNamed, is_among, in_places, HaveOwnPlaces}
 
@@ -27,13 +27,13 @@ AreNewNames earlier (name ∷ names) = IsNewName earlier name × AreNewNames (ea
 
 -- These captures have the archive's name. What the input holds, where that is known, is accepted whole with them, as
 -- the captures of its records of these types.
-abbrev pub AreCapturesOf : (Kind → Bool) → List ℕ → Option (List ℕ) → List EntryValue → Type 0
+abbrev pub AreCapturesOf : (Kind → Bool) → List ℕ → ToldArchive → List EntryValue → Type 0
 AreCapturesOf types name input captures =
     AreNamed name captures
-    × IfSome input (λ archive. IsAccepted types usual_limits (plain HEAD_LIMIT) name archive captures)
+    × IfSome input.bytes (λ archive. IsAccepted types usual_limits (form_of input.packing) name archive captures)
 
 -- the same of each archive
-abbrev pub AreCapturesOfEach : (Kind → Bool) → List (List ℕ) → List (Option (List ℕ)) → List (List EntryValue) → Type 0
+abbrev pub AreCapturesOfEach : (Kind → Bool) → List (List ℕ) → List ToldArchive → List (List EntryValue) → Type 0
 AreCapturesOfEach types [] [] [] = ⊤
 AreCapturesOfEach types (name ∷ names) (input ∷ inputs) (captures ∷ others) = AreCapturesOf types name input captures
     × AreCapturesOfEach types names inputs others
@@ -49,14 +49,14 @@ abbrev pub index_members : List EntryValue → List Member
 index_members captures = map entry_member (in_places captures)
 
 -- the archives are accepted under names of their own, with these captures
-pub record AreIndexed (types : Kind → Bool) (names : List (List ℕ)) (inputs : List (Option (List ℕ)))
+pub record AreIndexed (types : Kind → Bool) (names : List (List ℕ)) (inputs : List ToldArchive)
     (captures : List (List EntryValue)) : Type 0 where
   pub named : AreNewNames [] names
   pub accepted : AreCapturesOfEach types names inputs captures
   pub lines : AllByRecursion HaveLines captures
 
 -- an archive under a new name is accepted whole, and this is the index of its captures
-pub record HasIndex (types : Kind → Bool) (earlier : List (List ℕ)) (name : List ℕ) (input : Option (List ℕ))
+pub record HasIndex (types : Kind → Bool) (earlier : List (List ℕ)) (name : List ℕ) (input : ToldArchive)
     (index : List ℕ) : Type 0 where
   pub is_new : IsNewName earlier name
   pub captures : List EntryValue
@@ -65,7 +65,7 @@ pub record HasIndex (types : Kind → Bool) (earlier : List (List ℕ)) (name : 
   pub is_index : IsIndex LINE_LIMIT index (index_members captures)
 
 -- the archives are accepted, and these are the indexes of their captures
-pub record HaveIndexes (types : Kind → Bool) (names : List (List ℕ)) (inputs : List (Option (List ℕ)))
+pub record HaveIndexes (types : Kind → Bool) (names : List (List ℕ)) (inputs : List ToldArchive)
     (indexes : List (List ℕ)) : Type 0 where
   pub captures : List (List EntryValue)
   pub indexed : AreIndexed types names inputs captures
@@ -73,23 +73,27 @@ pub record HaveIndexes (types : Kind → Bool) (names : List (List ℕ)) (inputs
 
 -- why an archive isn't indexed: its name is bad, or an earlier one; else its captures end with this fault, or memory is
 -- refused
-abbrev pub IsFaultOfArchive : (Kind → Bool) → List (List ℕ) → List ℕ → Option (List ℕ) → IndexFault → Type 0
+abbrev pub IsFaultOfArchive : (Kind → Bool) → List (List ℕ) → List ℕ → ToldArchive → IndexFault → Type 0
 IsFaultOfArchive types earlier name input index.BadName = ¬ (IsName name)
 IsFaultOfArchive types earlier name input index.DuplicateName = IsName name × (is_among earlier name ≡ true)
 IsFaultOfArchive types earlier name input (index.Capture fault) =
     IsNewName earlier name
-    × IfSome input (λ archive. (captures : List EntryValue)
-    × IsAcceptedTo types usual_limits (plain HEAD_LIMIT) name fault archive captures)
+    × IfSome input.bytes (λ archive. (captures : List EntryValue)
+    × IsAcceptedTo types usual_limits (form_of input.packing) name fault archive captures)
 IsFaultOfArchive types earlier name input index.Memory = IsNewName earlier name
 IsFaultOfArchive types earlier name input other = ⊥
 
+-- an archive of which nothing is told
+abbrev pub nothing_told : ToldArchive
+nothing_told = record { packing = Plain; bytes = None }
+
 -- the archive with this number is the first that isn't indexed
-pub record IsFirstFault (types : Kind → Bool) (names : List (List ℕ)) (inputs : List (Option (List ℕ))) (i : ℕ)
+pub record IsFirstFault (types : Kind → Bool) (names : List (List ℕ)) (inputs : List ToldArchive) (i : ℕ)
     (fault : IndexFault) : Type 0 where
   pub inside : i < length names
   pub captures : List (List EntryValue)
   pub before : AreIndexed types (take i names) (take i inputs) captures
-  pub refused : IsFaultOfArchive types (take i names) (get_or names i []) (get_or inputs i None) fault
+  pub refused : IsFaultOfArchive types (take i names) (get_or names i []) (get_or inputs i nothing_told) fault
 
 -- the archive is refused by its name, before it is read
 abbrev pub IsNameFault : IndexFault → Type 0

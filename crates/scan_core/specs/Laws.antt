@@ -4,11 +4,11 @@ use Rattle.std.specs.Prelude.{◌≡◌, ℕ, ◌-◌, ◌^◌, ◌<◌, ⊤, Bo
 use Rattle.std.specs.List.{AllByRecursion}
 use Rattle.warc_core.specs.Kind.{Kind}
 use Rattle.warc_core.specs.declared.fault.Cause.TheVariants as causes
-use Rattle.warc_core.specs.declared.next.TheConstants.{HEAD_LIMIT}
 use Rattle.capture_core.specs.declared.fault.CaptureFault.TheVariants as capture
 use Rattle.capture_core.specs.CaptureAnswer.{usual_limits}
 use Rattle.index_core.specs.declared.fault.IndexFault.TheVariants as index
-use Rattle.index_core.specs.Form.{plain}
+use Rattle.archives.specs.Packing.{form_of}
+use Rattle.archives.specs.State.{ToldArchive}
 use Rattle.index_core.specs.Accepted.{IsAcceptedWhole}
 use Rattle.cdxj_core.specs.Entries.{EntryValue}
 use Rattle.index_core.specs.Indexing.{index_text}
@@ -24,13 +24,20 @@ use Rattle.scan_core.specs.Captures.{all_captures, captured_lines}
 use Rattle.scan_core.specs.Failures.{CountsInputs, CountsOutput}
 use Rattle.scan_core.specs.Scanning.{IsAsked, IsScanFault, Scanned}
 
+-- the bytes of an archive are told, and it is accepted whole under this name
+pub record IsToldWhole (types : Kind → Bool) (name : List ℕ) (input : ToldArchive) : Type 0 where
+  pub archive : List ℕ
+  pub told : input.bytes ≡ Some archive
+  pub whole : IsAcceptedWhole types usual_limits (form_of input.packing) name archive
+
 -- nothing that is asked of a scan is at fault: the archives are accepted whole under names of their own, the sizes are
 -- given and positive, and the text means a query
-pub record IsScannable (types : Kind → Bool) (names archives : List (List ℕ)) (sizes text : List ℕ) : Type 0 where
+pub record IsScannable (types : Kind → Bool) (names : List (List ℕ)) (inputs : List ToldArchive) (sizes text : List ℕ) :
+    Type 0 where
   pub query : QueryValue
   pub asked : IsAsked sizes text (length names) query
   pub named : AreNewNames [] names
-  pub whole : AllZip (IsAcceptedWhole types usual_limits (plain HEAD_LIMIT)) names archives
+  pub whole : AllZip (IsToldWhole types) names inputs
 
 -- a fault for want of memory, or for a key that the URL parser has no room for
 abbrev pub IsWantOfRoom : ScanFault → Type 0
@@ -57,16 +64,17 @@ ScanIsOverIndex = (archives : List (List EntryValue))
 
 -- where nothing is at fault and no device failed, a scan is refused only for want of memory
 abbrev pub OnlyMemoryIsWanting : Type 0
-OnlyMemoryIsWanting = (types : Kind → Bool) (names archives : List (List ℕ)) (inputs : List (Option (List ℕ)))
+OnlyMemoryIsWanting = (types : Kind → Bool) (names : List (List ℕ)) (inputs : List ToldArchive)
     (sizes text : List ℕ) (fault : ScanFault) (counts : List ℕ) (count : ℕ)
-    → IsScannable types names archives sizes text → Known inputs archives
+    → IsScannable types names inputs sizes text
     → IsScanFault types names inputs sizes text fault
     → AllByRecursion MayRise counts → CountsInputs {A = Unit {0}} (Err fault) counts counts
     → MayRise count → CountsOutput {A = Unit {0}} (Err fault) count count → IsWantOfRoom fault
 
 -- over archives and an output whose bytes are known, a scan writes one text, and returns one number of pages
 abbrev pub ScanIsOne : Type 0
-ScanIsOne = (types : Kind → Bool) (names archives : List (List ℕ)) (inputs : List (Option (List ℕ)))
-    (sizes text old : List ℕ) (new new' : Option (List ℕ)) (number number' : ℕ) → Known inputs archives
+ScanIsOne = (types : Kind → Bool) (names archives : List (List ℕ)) (inputs : List ToldArchive)
+    (sizes text old : List ℕ) (new new' : Option (List ℕ)) (number number' : ℕ)
+    → Known (map (λ input. input.bytes) inputs) archives
     → Scanned types names inputs sizes text (Some old) new number
     → Scanned types names inputs sizes text (Some old) new' number' → (new ≡ new') × (number ≡ number')

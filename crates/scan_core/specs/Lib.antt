@@ -4,6 +4,9 @@ pub mod Scanning
 pub mod Failures
 pub mod Laws
 pub mod Limits
+-- what contracts see of archives
+pub use Rattle.archives.specs.Packing
+pub use Rattle.archives.specs.State
 -- what contracts see of records and captures
 pub use Rattle.warc_core.specs.Kind
 pub use Rattle.capture_core.specs.CaptureAnswer

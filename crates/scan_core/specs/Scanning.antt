@@ -16,6 +16,7 @@ use Rattle.query_core.specs.Paging.{are_sizes, WritesPages, WrotePages, WrotePag
 use Rattle.scan_core.specs.declared.fault.ScanFault.{ScanFault}
 use Rattle.scan_core.specs.declared.fault.ScanFault.TheVariants.{Query, Archive, Answer}
 use Rattle.scan_core.specs.Archives.{AreIndexed, IsFirstFault}
+use Rattle.archives.specs.State.{ToldArchive}
 use Rattle.scan_core.specs.Captures.{all_captures, captured_lines}
 
 -- the sizes are given and positive, the text means this query, and the archives aren't too many
@@ -26,7 +27,7 @@ pub record IsAsked (ns text : List ℕ) (count : ℕ) (query : QueryValue) : Typ
 
 -- The types of records that are indexed; the archives, by their names and by what their inputs hold; the sizes of
 -- pages, and the query's text
-module _ (types : Kind → Bool) (names : List (List ℕ)) (inputs : List (Option (List ℕ))) (sizes text : List ℕ) where
+module _ (types : Kind → Bool) (names : List (List ℕ)) (inputs : List ToldArchive) (sizes text : List ℕ) where
   -- The pages of the archives' captures were written: joined, they are exactly those that the query selects, each once,
   -- in the order of places.
   pub record Scanned (old new : Option (List ℕ)) (number : ℕ) : Type 0 where
@@ -60,7 +61,7 @@ module _ (types : Kind → Bool) (names : List (List ℕ)) (inputs : List (Optio
   IsScanFault (Answer fault) = ⊥
 
 -- the archive that is named is the first that isn't indexed
-abbrev pub IsArchiveFault : (Kind → Bool) → List (List ℕ) → List (Option (List ℕ)) → ScanFault → Type 0
+abbrev pub IsArchiveFault : (Kind → Bool) → List (List ℕ) → List ToldArchive → ScanFault → Type 0
 IsArchiveFault types names inputs (Archive i fault) = IsFirstFault types names inputs i fault
 IsArchiveFault types names inputs other = ⊥
 

@@ -3,8 +3,8 @@
 //! The definitions begin in `specs/Scanning.antt`: which pages a scan writes.
 #![tactic(auto)]
 
-mod archives;
 mod fault;
+mod indexing;
 mod laws;
 mod named;
 mod scanning;
@@ -17,7 +17,7 @@ pub use crate::laws::{
 pub use crate::named::Named;
 pub use crate::scanning::scan;
 pub use capture_core::{CaptureFault, Types};
-pub use index_core::IndexFault;
+pub use index_core::{Archive, IndexFault, PlainArchive};
 pub use query_core::{
     AnswerFault, QUERY_LIMIT, QueryFault, SOURCES_LIMIT, are_sizes, resume_keys_continue,
 };

@@ -1,5 +1,6 @@
 //! The pages of a query over archives.
-ghost use Rattle.std.specs.List.{AllZip};
+ghost use Rattle.std.specs.List.{AllByRecursion, AllZip};
+ghost use Rattle.archives.specs.State.{IsUnread, told_of};
 ghost use Rattle.std.specs.Prelude.{◌≡◌, ◌<◌, ◌≤◌, List, length, map, true, Err, IfOk, IfErr};
 ghost use Rattle.std.specs.Prelude.{string_bytes};
 ghost use Rattle.capture_core.specs.Types.{includes};
@@ -15,11 +16,12 @@ ghost use Rattle.scan_core.specs.Failures.{CountsWriting, CountsInputs, CountsOu
 ghost use Rattle.scan_core.specs.Scanning.{Scanned, ScannedInPart, WritesKnownPages, IsScanFault};
 ghost use Rattle.scan_core.specs.Scanning.{IsBeforeWriting, LeavesUnread};
 
-use crate::archives::index_archives;
 use crate::fault::ScanFault;
+use crate::indexing::index_archives;
 use crate::named::Named;
 use capture_core::Types;
-use devices::{Gather, Input, Output};
+use devices::{Gather, Output};
+use index_core::Archive;
 use page_core::pages_join;
 use query_core::{
     AnswerFault, Query, SOURCES_LIMIT, SliceSource, are_sizes, indexes_have_no_line_at_fault,
@@ -72,32 +74,33 @@ fn write_pages<O: Output>(
 /// memory could not be allocated. Up to here nothing was written. Then `Answer(Memory)`, and `Answer(Write)` at the
 /// output's first failure: a prefix of the pages was written.
 #[tactic(auto, unfolding(crate::specs::Scanning::IsScanFault, crate::specs::Scanning::LeavesUnread))]
-pub fn scan<I: Input, O: Output>(
+pub fn scan<A: Archive, O: Output>(
     alloc: Global,
-    inputs: &mut [Named<I>],
+    inputs: &mut [Named<A>],
     types: Types,
     sizes: &[u64],
     query: &str,
     out: &mut O,
 ) -> Result<u64, ScanFault>
+    requires { AllByRecursion (λ n. IsUnread (A.state n.archive)) inputs.old }
     ensures names { map (λ n. string_bytes n.name) inputs.new
         ≡ map (λ n. string_bytes n.name) inputs.old }
     ensures scanned { IfOk result
         (Scanned (includes types) (map (λ n. string_bytes n.name) inputs.old)
-        (map (λ n. I.remaining n.input) inputs.old) sizes.now query.now
+        (map (λ n. told_of (A.state n.archive)) inputs.old) sizes.now query.now
         (O.written out.old) (O.written out.new)) }
     ensures fault { IfErr result
         (IsScanFault (includes types) (map (λ n. string_bytes n.name) inputs.old)
-        (map (λ n. I.remaining n.input) inputs.old) sizes.now query.now) }
+        (map (λ n. told_of (A.state n.archive)) inputs.old) sizes.now query.now) }
     ensures part { IfErr result (λ fault.
         (IsBeforeWriting fault → ⊥) → ScannedInPart (includes types)
         (map (λ n. string_bytes n.name) inputs.old)
-        (map (λ n. I.remaining n.input) inputs.old) sizes.now query.now
+        (map (λ n. told_of (A.state n.archive)) inputs.old) sizes.now query.now
         (O.written out.old) (O.written out.new)) }
     ensures unwritten { IfErr result (λ fault. IsBeforeWriting fault → out.new ≡ out.old) }
     ensures unread { IfErr result (LeavesUnread inputs.old inputs.new) }
-    ensures inputs { CountsInputs result (map (λ n. I.failures n.input) inputs.old)
-        (map (λ n. I.failures n.input) inputs.new) }
+    ensures inputs { CountsInputs result (map (λ n. (A.state n.archive).failures) inputs.old)
+        (map (λ n. (A.state n.archive).failures) inputs.new) }
     ensures output { CountsOutput result (O.failures out.old) (O.failures out.new) }
 {
     if !are_sizes(sizes) {

@@ -10,11 +10,11 @@ use door_examples::records::{count_records, first_head};
 use door_examples::scans::{in_memory, write_pages};
 use door_examples::shelf::{Shelf, perform_on_shelf};
 use fixtures::{LETTERS, OFFSET_5, OFFSET_10, RESPONSE, RESPONSE_LINE};
-use index_core::IndexFault;
+use index_core::{IndexFault, PlainArchive};
 use query_core::{Query, Report, SliceSource};
 use std::alloc::{AllocError, Global};
 use std::test::Fail;
-use tasks::Outcome;
+use tasks::{Console, Outcome, Program};
 use warc_core::{Fault, Gather, Head, Kind, Slice};
 
 fn is_of_response(head: &Head) -> bool {
@@ -107,7 +107,8 @@ fn a_capture_has_a_line(rt: HostRuntime) -> Result<(), Fail> {
 #[test]
 fn an_archive_has_an_index(rt: HostRuntime) -> Result<(), IndexFault> {
     let mut out = Gather::new(rt.alloc());
-    let lines = write_index(rt.alloc(), "b.warc", &mut Slice::new(RESPONSE), &mut out)?;
+    let mut archive = PlainArchive::new(rt.alloc(), Slice::new(RESPONSE));
+    let lines = write_index(rt.alloc(), "b.warc", &mut archive, &mut out)?;
     assert!(rt; lines == 1);
     assert!(rt; out.bytes() == RESPONSE_LINE);
     Ok(())
@@ -172,13 +173,15 @@ fn one_name(alloc: Global, name: &str) -> Result<Vec<String>, AllocError> {
 
 /// Performs the task over the archive and the index in memory. Returns `true` if it ends as done, and has written this text.
 fn writes(rt: &HostRuntime, task: &Task, text: &[u8]) -> bool {
+    let console = Console::new(rt, Program::Warcdx);
     let shelf = Shelf {
+        alloc: rt.alloc(),
         archive: ARCHIVE,
         index: INDEX,
         input: b"key=org,a)/&fl=urlkey\n",
     };
     let mut out = Gather::new(rt.alloc());
-    let outcome = perform_on_shelf(rt, &shelf, task, &mut out);
+    let outcome = perform_on_shelf(&console, &shelf, task, &mut out);
     matches!(outcome, Outcome::Done) && out.bytes() == text
 }
 

@@ -3,7 +3,7 @@ use crate::runs::{Devices, PAGED, PAGES, SOUND, scanned, with_memory};
 use capture_core::{CaptureFault, Types};
 use devices::{Fuse, Gather, Slice};
 use fixtures::{RESOURCE, Refused};
-use index_core::IndexFault;
+use index_core::{IndexFault, PlainArchive};
 use query_core::AnswerFault;
 use scan_core::{Named, ScanFault, scan};
 use std::alloc::Global;
@@ -107,12 +107,12 @@ fn scans_end_where_their_output_fails(rt: HostRuntime) -> Result<(), Fail> {
 }
 
 /// Returns archives of one resource each, with numbers as names.
-fn numbered(alloc: Global, count: usize) -> Result<Vec<Named<Fuse<Slice<'static>>>>, Fail> {
+fn numbered(alloc: Global, count: usize) -> Result<Vec<Named<PlainArchive<Fuse<Slice<'static>>>>>, Fail> {
     let mut inputs = Vec::new(alloc);
     for i in 0..count {
         inputs.push(Named {
             name: format!(in alloc; "{i}")?,
-            input: Fuse::new(Slice::new(RESOURCE), 8_192, 0),
+            archive: PlainArchive::new(alloc, Fuse::new(Slice::new(RESOURCE), 8_192, 0)),
         })?;
     }
     Ok(inputs)

@@ -2,7 +2,7 @@
 use capture_core::{CaptureFault, Types};
 use devices::{Fuse, Gather, Slice};
 use fixtures::{RESOURCE, RESPONSE, Refused, joined};
-use index_core::IndexFault;
+use index_core::{IndexFault, PlainArchive};
 use query_core::{AnswerFault, QueryFault};
 use scan_core::{Named, ScanFault, scan};
 use std::alloc::{AllocError, Global};
@@ -76,7 +76,7 @@ fn inputs<'a>(
     archives: &[Archive],
     texts: &'a [Vec<u8>],
     devices: Devices,
-) -> Result<Vec<Named<Fuse<Slice<'a>>>>, AllocError> {
+) -> Result<Vec<Named<PlainArchive<Fuse<Slice<'a>>>>>, AllocError> {
     let mut inputs = Vec::new(alloc);
     for (i, ((name, _pieces), text)) in archives.iter().zip(texts).enumerate() {
         let at = if i == devices.archive {
@@ -86,7 +86,10 @@ fn inputs<'a>(
         };
         inputs.push(Named {
             name: String::from_str(alloc, name)?,
-            input: Fuse::new(Slice::new(text.as_slice()), devices.read_at_once, at),
+            archive: PlainArchive::new(
+                alloc,
+                Fuse::new(Slice::new(text.as_slice()), devices.read_at_once, at),
+            ),
         })?;
     }
     Ok(inputs)
@@ -115,14 +118,17 @@ fn is_named_rightly(fault: ScanFault, begun: usize, count: usize) -> bool {
 }
 
 /// Returns how many of the archives were read, or asked for bytes.
-fn begun(inputs: &[Named<Fuse<Slice<'_>>>]) -> usize {
-    inputs.iter().filter(|named| named.input.calls > 0).count()
+fn begun(inputs: &[Named<PlainArchive<Fuse<Slice<'_>>>>]) -> usize {
+    inputs
+        .iter()
+        .filter(|named| named.archive.input().calls > 0)
+        .count()
 }
 
 /// Returns the result of a scan of these archives, unless memory could not be allocated.
 pub fn with_memory(
     answer: Result<u64, ScanFault>,
-    inputs: &[Named<Fuse<Slice<'_>>>],
+    inputs: &[Named<PlainArchive<Fuse<Slice<'_>>>>],
 ) -> Result<Result<u64, ScanFault>, Fail> {
     match answer {
         Err(fault) if is_memory(fault) => {

@@ -7,7 +7,10 @@ use Rattle.std.proofs.lemmas.Simd.{map-map}
 use Rattle.std.proofs.lemmas.Grind.{take_at_read}
 use Rattle.scan_core.specs.declared.named.Named.{Named}
 use Rattle.tasks.specs.Indexing.{archive_name}
-use Rattle.tasks.specs.Opening.{HasTold}
+use Rattle.std.specs.List.{AllByRecursion, AllZip}
+use Rattle.archives.specs.State.{ArchiveState, IsUnread, ToldArchive, told_of}
+use Rattle.tasks.specs.Opening.{OpensAs}
+use Rattle.tasks.proofs.ToldLemmas.{Agrees}
 use Rattle.tasks.specs.Scanning.{AreOpened, archive_names, inputs}
 
 -- the values of one more
@@ -20,18 +23,39 @@ pub of_ok : {A E P : Type 0} (r : Result A E) → is_err r ≡ false → IfOk r 
 of_ok r e p = grind arith
 
 -- one more archive was opened
-pub opened-more : {I : Type 0} (remaining : I → Option (List ℕ)) (bytes_of : List ℕ → Option (List ℕ))
-    (given : Option (List ℕ)) (before after : List (List ℕ)) (name named : List ℕ) (input : I) (old new : List (Named I))
-    → after ≡ before ++ name ∷ [] → named ≡ archive_name given name → HasTold (bytes_of name) (remaining input)
+pub opened-more : {A : Type 0} (state : A → ArchiveState) (Tells : List ℕ → ToldArchive → Type 0)
+    (given : Option (List ℕ)) (before after : List (List ℕ)) (name named : List ℕ) (input : A) (old new : List (Named A))
+    → after ≡ before ++ name ∷ [] → named ≡ archive_name given name → OpensAs (Tells name) (state input)
     → archive_names new ≡ archive_names old ++ named ∷ [] → inputs new ≡ inputs old ++ input ∷ []
-    → AreOpened remaining bytes_of given before old → AreOpened remaining bytes_of given after new
-opened-more remaining bytes_of given before after name named input old new grown is has names gained opened = record {
+    → AreOpened state Tells given before old → AreOpened state Tells given after new
+opened-more state Tells given before after name named input old new grown is has names gained opened = record {
   named = grind (arith, map-append);
-  bytes =
-      let told : map bytes_of after ≡ map bytes_of before ++ bytes_of name ∷ [] = grind (arith, map-append) in
-      let left : map (λ archive. remaining archive.input) new
-      ≡ map (λ archive. remaining archive.input) old ++ remaining input ∷ [] =
-      sym (map-map remaining (λ archive. archive.input) new) ∙ ap (map remaining) gained
+  opened =
+      let left : map (λ archive. state archive.archive) new
+      ≡ map (λ archive. state archive.archive) old ++ state input ∷ [] =
+      sym (map-map state (λ archive. archive.archive) new) ∙ ap (map state) gained
       ∙ grind (arith, map-append, map-map) in
-      rw (told, left) (AllZip-push HasTold _ _ _ _ opened.bytes has);
+      rw (grown, left) (AllZip-push (λ name s. OpensAs (Tells name) s) _ _ _ _ opened.opened has);
 }
+
+-- archives that were opened may be told so, and none of them was read
+pub opened_told : {A : Type 0} (state : A → ArchiveState) (Tells : List ℕ → ToldArchive → Type 0)
+    (names : List (List ℕ)) (archives : List (Named A))
+    → AllZip (λ name s. OpensAs (Tells name) s) names (map (λ archive. state archive.archive) archives)
+    → (told : List ToldArchive) × AllZip Tells names told
+    × AllZip Agrees told (map (λ archive. told_of (state archive.archive)) archives)
+opened_told state Tells [] [] o = ([], tt, tt)
+opened_told state Tells (name ∷ names) (a ∷ archives) o =
+    let more = opened_told state Tells names archives o.1 in
+    let first : Agrees o.0.0 (told_of (state a.archive)) = record { packing = o.0.2.packing; bytes = o.0.2.bytes } in
+    (o.0.0 ∷ more.0, (o.0.1, more.1), (first, more.2))
+opened_told state Tells [] (a ∷ archives) o = absurd o
+opened_told state Tells (name ∷ names) [] o = absurd o
+
+pub all_unread : {A : Type 0} (state : A → ArchiveState) (Tells : List ℕ → ToldArchive → Type 0)
+    (names : List (List ℕ)) (archives : List (Named A))
+    → AllZip (λ name s. OpensAs (Tells name) s) names (map (λ archive. state archive.archive) archives)
+    → AllByRecursion (λ archive. IsUnread (state archive.archive)) archives
+all_unread state Tells names [] o = tt
+all_unread state Tells (name ∷ names) (a ∷ archives) o = (o.0.2.unread, all_unread state Tells names archives o.1)
+all_unread state Tells [] (a ∷ archives) o = absurd o

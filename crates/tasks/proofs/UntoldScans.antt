@@ -8,44 +8,45 @@ use Rattle.scan_core.specs.declared.fault.ScanFault.{ScanFault}
 use Rattle.scan_core.specs.Archives.{AreCapturesOfEach, AreIndexed, AreCapturesOf, IsFaultOfArchive, IsFirstFault}
 use Rattle.scan_core.specs.Scanning.{IsScanFault, Scanned, ScannedInPart}
 use Rattle.tasks.specs.declared.outcome.Outcome.{Outcome}
-use Rattle.tasks.specs.Opening.{HasTold}
+use Rattle.archives.specs.State.{ToldArchive}
 use Rattle.tasks.specs.Scanning.{ScansArchives}
-use Rattle.tasks.proofs.ToldLemmas.{of_told, told_at, told_take}
+use Rattle.tasks.proofs.ToldLemmas.{Agrees, of_agreed, told_at, told_take}
 
 module _ (types : Kind → Bool) where
-  accepted_told : (name : List ℕ) (told left : Option (List ℕ)) (captures : List EntryValue) → HasTold told left
+  accepted_told : (name : List ℕ) (told left : ToldArchive) (captures : List EntryValue) → Agrees told left
       → AreCapturesOf types name left captures → AreCapturesOf types name told captures
   accepted_told name told left captures has accepted =
-      of_told (λ bytes. AreCapturesOf types name bytes captures) told left has (λ known. (known.0, tt)) accepted
+      of_agreed (λ archive. AreCapturesOf types name archive captures) told left has (λ known. (known.0, tt)) accepted
 
-  all_accepted_told : (names : List (List ℕ)) (told left : List (Option (List ℕ))) (captures : List (List EntryValue))
-      → AllZip HasTold told left → AreCapturesOfEach types names left captures → AreCapturesOfEach types names told captures
+  all_accepted_told : (names : List (List ℕ)) (told left : List ToldArchive) (captures : List (List EntryValue))
+      → AllZip Agrees told left → AreCapturesOfEach types names left captures → AreCapturesOfEach types names told captures
   all_accepted_told (name ∷ names) (t ∷ told) (l ∷ left) (c ∷ captures) has accepted = (
     accepted_told name t l c has.0 accepted.0,
     all_accepted_told names told left captures has.1 accepted.1,
   )
   all_accepted_told names told left captures has accepted = grind arith
 
-  indexed_told : (names : List (List ℕ)) (told left : List (Option (List ℕ))) (captures : List (List EntryValue))
-      → AllZip HasTold told left → AreIndexed types names left captures → AreIndexed types names told captures
+  indexed_told : (names : List (List ℕ)) (told left : List ToldArchive) (captures : List (List EntryValue))
+      → AllZip Agrees told left → AreIndexed types names left captures → AreIndexed types names told captures
   indexed_told names told left captures has indexed = grind (arith, all_accepted_told)
 
-  fault_untold : (earlier : List (List ℕ)) (name : List ℕ) (left : Option (List ℕ)) (fault : IndexFault)
-      → IsFaultOfArchive types earlier name left fault → IsFaultOfArchive types earlier name None fault
+  fault_untold : (earlier : List (List ℕ)) (name : List ℕ) (left : ToldArchive) (fault : IndexFault)
+      → IsFaultOfArchive types earlier name left fault
+      → IsFaultOfArchive types earlier name (record left { bytes = None }) fault
   fault_untold earlier name left fault is = grind arith
 
-  first_told : (names : List (List ℕ)) (told left : List (Option (List ℕ))) (i : ℕ) (fault : IndexFault)
-      → AllZip HasTold told left → IsFirstFault types names left i fault → IsFirstFault types names told i fault
+  first_told : (names : List (List ℕ)) (told left : List ToldArchive) (i : ℕ) (fault : IndexFault)
+      → AllZip Agrees told left → IsFirstFault types names left i fault → IsFirstFault types names told i fault
   first_told names told left i fault has first = record {
     inside = first.inside;
     captures = first.captures;
     before = indexed_told (take i names) (take i told) (take i left) first.captures (told_take i told left has)
         first.before;
-    refused = of_told (λ bytes. IsFaultOfArchive types (take i names) (get_or names i []) bytes fault) _ _
+    refused = of_agreed (λ archive. IsFaultOfArchive types (take i names) (get_or names i []) archive fault) _ _
         (told_at i told left has) (fault_untold _ _ _ fault) first.refused;
   }
 
-  module _ (names : List (List ℕ)) (told left : List (Option (List ℕ))) (has : AllZip HasTold told left)
+  module _ (names : List (List ℕ)) (told left : List ToldArchive) (has : AllZip Agrees told left)
       (sizes query : List ℕ) where
     scan_fault_told : (fault : ScanFault) → IsScanFault types names left sizes query fault
         → IsScanFault types names told sizes query fault

@@ -10,15 +10,16 @@ use Rattle.tasks.specs.Checks.{ChecksIndexes}
 use Rattle.tasks.specs.Fetching.{WritesRecord}
 use Rattle.tasks.specs.Indexing.{IndexesArchives}
 use Rattle.tasks.specs.Merging.{MergesIndexes}
-use Rattle.tasks.specs.Opening.{IsUnopened, AreUnopenedIndexes, OpensFirst}
+use Rattle.tasks.specs.Opening.{IsUnopened, AreUnopenedIndexes, OpensFirst, WithTold}
+use Rattle.archives.specs.State.{ToldArchive}
 use Rattle.tasks.specs.Queries.{AnswersLines, AnswersPages, AnswersQuery, ReadsFirst}
 use Rattle.tasks.specs.Reports.{ReportsOn}
 use Rattle.tasks.specs.Scanning.{ScansNamed}
 
--- What opens files tells: the bytes of the archive and of the index of a name, as far as they are known; that the
+-- What opens files tells: how the archive of a name may be, and the bytes of the index of a name, as far as they are known; that the
 -- opening of one failed; and the bytes of standard input.
 pub record Openings : Type 1 where
-  pub archive_of : List ℕ → Option (List ℕ)
+  pub TellsArchive : List ℕ → ToldArchive → Type 0
   pub index_of : List ℕ → Option (List ℕ)
   pub ArchiveFailed : List ℕ → Type 0
   pub IndexFailed : List ℕ → Type 0
@@ -31,11 +32,11 @@ module _ (files : Openings) (before after : Option (List ℕ)) (unchanged : Type
   OverIndexFiles names done = OpensFirst (AreUnopenedIndexes files.IndexFailed names outcome) unchanged done
 
   unfoldable pub Performs : Meaning → Type 0
-  Performs (ToList names) = ReportsOn files.archive_of files.ArchiveFailed reports.Listing names before after outcome
+  Performs (ToList names) = ReportsOn files.TellsArchive files.ArchiveFailed reports.Listing names before after outcome
   Performs (ToVerify names) =
-      ReportsOn files.archive_of files.ArchiveFailed reports.Verdicts names before after outcome
+      ReportsOn files.TellsArchive files.ArchiveFailed reports.Verdicts names before after outcome
   Performs (ToIndex types input names) =
-      IndexesArchives files.archive_of files.ArchiveFailed types input names before after unchanged outcome
+      IndexesArchives files.TellsArchive files.ArchiveFailed types input names before after unchanged outcome
   Performs (ToMerge names) =
       OverIndexFiles names (MergesIndexes (map files.index_of names) before after unchanged outcome)
   Performs (ToCheck names) = ChecksIndexes files.index_of files.IndexFailed names before after outcome
@@ -47,14 +48,14 @@ module _ (files : Openings) (before after : Option (List ℕ)) (unchanged : Type
       OverIndexFiles names (AnswersLines (map files.index_of names) files.input before after unchanged outcome)
   Performs (ToGet len offset name) =
       OpensFirst (IsUnopened (files.ArchiveFailed name) outcome) unchanged
-      (WritesRecord len offset (files.archive_of name) before after unchanged outcome)
-  Performs (ToScan types input sizes text names) = ScansNamed files.archive_of files.ArchiveFailed (includes types) input
+      (WithTold (files.TellsArchive name) (λ told. WritesRecord len offset told before after unchanged outcome))
+  Performs (ToScan types input sizes text names) = ScansNamed files.TellsArchive files.ArchiveFailed (includes types) input
       sizes text names before after unchanged outcome
 
--- the files of the system, of which nothing is told
-abbrev pub system_files : Openings
-system_files = record {
-  archive_of = λ _. None;
+-- the files of the system, of which nothing is told but how archives may be
+abbrev pub system_files : (ToldArchive → Type 0) → Openings
+system_files MayBe = record {
+  TellsArchive = λ _. MayBe;
   index_of = λ _. None;
   ArchiveFailed = λ _. ⊤;
   IndexFailed = λ _. ⊤;
@@ -62,7 +63,7 @@ system_files = record {
 }
 
 -- a task ended as done over the files of the system: what it then writes was written to an output
-pub record IsDone (task : Meaning) : Type 0 where
+pub record IsDone (MayBe : ToldArchive → Type 0) (task : Meaning) : Type 0 where
   pub before : Option (List ℕ)
   pub after : Option (List ℕ)
-  pub performs : Performs system_files before after ⊤ outcomes.Done task
+  pub performs : Performs (system_files MayBe) before after ⊤ outcomes.Done task

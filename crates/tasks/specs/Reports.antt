@@ -2,11 +2,11 @@
 use Rattle.std.specs.Prelude.{◌≡◌, ◌⊎◌, ℕ, List, [], ◌++◌, length, Option, Result, codes, nat_lt, if◌then◌else◌}
 use Rattle.std.specs.Io.KnownBytes.{Appends}
 use Rattle.devices.specs.Device.{AppendsPrefix}
-use Rattle.warc_core.specs.declared.next.TheConstants.{HEAD_LIMIT}
 use Rattle.index_core.specs.declared.fault.IndexFault.{IndexFault}
 use Rattle.index_core.specs.declared.fault.IndexFault.TheVariants as faults
 use Rattle.index_core.specs.declared.verified.Verified.{Verified}
-use Rattle.index_core.specs.Form.{plain}
+use Rattle.archives.specs.Packing.{form_of}
+use Rattle.archives.specs.State.{ToldArchive}
 use Rattle.index_core.specs.Listing.{Lists}
 use Rattle.index_core.specs.Verifying.{Verifies}
 use Rattle.tasks.specs.declared.outcome.Outcome.{Outcome}
@@ -14,7 +14,7 @@ use Rattle.tasks.specs.declared.outcome.Outcome.TheVariants as outcomes
 use Rattle.tasks.specs.declared.reports.ArchiveReport.{ArchiveReport}
 use Rattle.tasks.specs.declared.reports.ArchiveReport.TheVariants as reports
 use Rattle.tasks.specs.Each.{GoesOver}
-use Rattle.tasks.specs.Opening.{IsUnopened, OpensFirst}
+use Rattle.tasks.specs.Opening.{IsUnopened, OpensFirst, WithTold}
 use Rattle.tasks.specs.Outcome.{outcome_of, verification_outcome}
 
 -- `NAME:`
@@ -26,28 +26,28 @@ abbrev pub heading_among : ℕ → List ℕ → List ℕ
 heading_among count name = if nat_lt 1 count then heading name else []
 
 -- the report on an archive was written, by the outcome of its call
-abbrev pub WritesReport : ArchiveReport → Option (List ℕ) → Outcome → Option (List ℕ) → Option (List ℕ) → Type 0
+abbrev pub WritesReport : ArchiveReport → ToldArchive → Outcome → Option (List ℕ) → Option (List ℕ) → Type 0
 WritesReport reports.Listing archive outcome before after =
-    (answer : Result ℕ IndexFault) × (outcome ≡ outcome_of answer) × Lists (plain HEAD_LIMIT) archive answer before after
+    (answer : Result ℕ IndexFault) × (outcome ≡ outcome_of answer) × Lists (form_of archive.packing) archive.bytes answer before after
 WritesReport reports.Verdicts archive outcome before after =
     (answer : Result Verified IndexFault) × (outcome ≡ verification_outcome answer)
-    × Verifies (plain HEAD_LIMIT) archive answer before after
+    × Verifies (form_of archive.packing) archive.bytes answer before after
 
 -- the report was written below a heading, or the output failed in the heading
-abbrev pub WritesBelow : List ℕ → ArchiveReport → Option (List ℕ) → Outcome → Option (List ℕ) → Option (List ℕ) → Type 0
+abbrev pub WritesBelow : List ℕ → ArchiveReport → ToldArchive → Outcome → Option (List ℕ) → Option (List ℕ) → Type 0
 WritesBelow heading report archive outcome before after =
     ((headed : Option (List ℕ)) × Appends before headed heading × WritesReport report archive outcome headed after)
     ⊎ ((outcome ≡ outcomes.Index faults.Write) × AppendsPrefix before after heading)
 
 -- the report on the archive of this name, which is one of so many, was written, unless it couldn't be opened
-abbrev pub ReportsOnOne : (List ℕ → Option (List ℕ)) → (List ℕ → Type 0) → ArchiveReport → ℕ → Option (List ℕ)
+abbrev pub ReportsOnOne : (List ℕ → ToldArchive → Type 0) → (List ℕ → Type 0) → ArchiveReport → ℕ → Option (List ℕ)
     → List ℕ → Outcome → Option (List ℕ) → Type 0
-ReportsOnOne bytes_of Failed report count before name outcome after =
+ReportsOnOne Tells Failed report count before name outcome after =
     OpensFirst (IsUnopened (Failed name) outcome) (after ≡ before)
-    (WritesBelow (heading_among count name) report (bytes_of name) outcome before after)
+    (WithTold (Tells name) (λ told. WritesBelow (heading_among count name) report told outcome before after))
 
 -- the reports on the archives of these names were written, one after another
-abbrev pub ReportsOn : (List ℕ → Option (List ℕ)) → (List ℕ → Type 0) → ArchiveReport → List (List ℕ)
+abbrev pub ReportsOn : (List ℕ → ToldArchive → Type 0) → (List ℕ → Type 0) → ArchiveReport → List (List ℕ)
     → Option (List ℕ) → Option (List ℕ) → Outcome → Type 0
-ReportsOn bytes_of Failed report names before after outcome =
-    GoesOver (ReportsOnOne bytes_of Failed report (length names)) outcomes.Done before names outcome after
+ReportsOn Tells Failed report names before after outcome =
+    GoesOver (ReportsOnOne Tells Failed report (length names)) outcomes.Done before names outcome after

@@ -6,6 +6,7 @@ ghost use Rattle.command_line.specs.Words.{texts};
 ghost use Rattle.tasks.specs.Checks.{ChecksIndex, ChecksIndexes, ChecksOne, WritesCount, checked_line, count_text};
 ghost use Rattle.tasks.specs.Writes.{CountsWrites};
 
+use crate::console::Console;
 use crate::each::with_each;
 use crate::faults::say_answer_fault;
 use crate::opening::Opener;
@@ -19,7 +20,7 @@ use warc_core::{Output, put};
 
 /// Checks each index, and writes the number of its lines. Faults of an index are reported on standard error.
 pub fn check_all<R: Runtime + AllocGlobal, F: Opener, O: Output>(
-    rt: &R,
+    console: &Console<R>,
     files: &F,
     names: &[String],
     out: &mut O,
@@ -36,13 +37,13 @@ pub fn check_all<R: Runtime + AllocGlobal, F: Opener, O: Output>(
                 (F.index_failed files.entry.now)
                 (O.written out.old) name.now result (O.written out.new) }
             ensures writes { CountsWrites result (O.failures out.old) (O.failures out.new) }
-        { check_opened(rt, name, files.open_index(name), out) },
+        { check_opened(console, name, files.open_index(name), out) },
     )
 }
 
 /// Checks an index, unless it couldn't be opened.
 fn check_opened<R: Runtime + AllocGlobal, S: Source + Drop, O: Output>(
-    rt: &R,
+    console: &Console<R>,
     name: &str,
     opened: Result<S, Outcome>,
     out: &mut O,
@@ -56,10 +57,10 @@ fn check_opened<R: Runtime + AllocGlobal, S: Source + Drop, O: Output>(
         (λ _. out.new ≡ out.old) }
 {
     match opened {
-        Ok(mut source) => match check(rt.alloc(), &mut source) {
+        Ok(mut source) => match check(console.alloc(), &mut source) {
             Ok(count) => write_count(name, count, out),
             Err(fault) => {
-                say_answer_fault(rt, name, fault);
+                say_answer_fault(console, name, fault);
                 Outcome::Answer(fault)
             }
         },

@@ -5,6 +5,7 @@ ghost use Rattle.tasks.specs.Opening.{OpensFirst, AreUnopenedIndexes};
 ghost use Rattle.tasks.specs.Queries.{AnswersLines};
 ghost use Rattle.tasks.specs.Writes.{CountsWrites};
 
+use crate::console::Console;
 use crate::faults::answered_outcome;
 use crate::opening::{Opener, open_indexes};
 use crate::outcome::Outcome;
@@ -15,7 +16,7 @@ use warc_core::{Input, Output};
 /// Answers the queries of an input over the indexes of these names. All indexes are opened before a line is read.
 /// Faults are reported on standard error.
 pub fn serve_all<R: Runtime + AllocGlobal, F: Opener, I: Input, O: Output>(
-    rt: &R,
+    console: &Console<R>,
     files: &F,
     names: &[String],
     input: &mut I,
@@ -28,8 +29,12 @@ pub fn serve_all<R: Runtime + AllocGlobal, F: Opener, I: Input, O: Output>(
         (O.written out.old) (O.written out.new) (out.new ≡ out.old) result) }
     ensures writes { CountsWrites result (O.failures out.old) (O.failures out.new) }
 {
-    match open_indexes(rt.alloc(), files, names) {
-        Ok(mut indexes) => answered_outcome(rt, names, serve(rt.alloc(), &mut indexes, input, out)),
+    match open_indexes(console.alloc(), files, names) {
+        Ok(mut indexes) => answered_outcome(
+            console,
+            names,
+            serve(console.alloc(), &mut indexes, input, out),
+        ),
         Err(outcome) => outcome,
     }
 }

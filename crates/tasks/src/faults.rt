@@ -6,6 +6,7 @@ ghost use Rattle.tasks.specs.Queries.{answered_outcome};
 use crate::advice::{
     answer_advice, index_advice, is_address, is_plain, query_advice, unknown_parameter,
 };
+use crate::console::Console;
 use crate::outcome::{Outcome, outcome_of};
 use index_core::IndexFault;
 use query_core::{AnswerFault, QueryFault};
@@ -13,73 +14,79 @@ use scan_core::ScanFault;
 use std::rt::Runtime;
 
 /// Returns the outcome of a call on the archive of this name. A fault is reported on standard error.
-pub fn said_outcome<R: Runtime>(rt: &R, name: &str, answer: Result<u64, IndexFault>) -> Outcome
+pub fn said_outcome<R: Runtime>(
+    console: &Console<R>,
+    name: &str,
+    answer: Result<u64, IndexFault>,
+) -> Outcome
     ensures { result ≡ outcome_of answer }
 {
     if let Err(fault) = answer {
-        say_fault(rt, name, fault);
+        say_fault(console, name, fault);
     }
     outcome_of(answer)
 }
 
 /// Reports a fault of an archive. Memory and a failed output are reported at the command's end.
-fn say_fault<R: Runtime>(rt: &R, name: &str, fault: IndexFault) {
+fn say_fault<R: Runtime>(console: &Console<R>, name: &str, fault: IndexFault) {
+    let program = console.program();
     match fault {
         IndexFault::Capture(fault) => {
             let (offset, cause) = (fault.offset(), fault.name());
-            let _ = eprintln!(rt; "warcdx: {name}: fault {offset} {cause}");
+            let _ = eprintln!(console.rt; "{program}: {name}: fault {offset} {cause}");
         }
         IndexFault::BadName | IndexFault::DuplicateName | IndexFault::NoRecord => {
             let cause = fault.name();
-            let _ = eprintln!(rt; "warcdx: {name}: {cause}");
+            let _ = eprintln!(console.rt; "{program}: {name}: {cause}");
         }
         IndexFault::Memory | IndexFault::Write => {}
     }
-    say_advice(rt, index_advice(rt, name, fault));
+    say_advice(console, index_advice(console.rt, name, fault));
 }
 
 /// Adds a line to a message, if there is more to say.
-pub fn say_advice<R: Runtime>(rt: &R, advice: Option<&str>) {
+pub fn say_advice<R: Runtime>(console: &Console<R>, advice: Option<&str>) {
     if let Some(advice) = advice {
-        let _ = eprintln!(rt; "  {advice}");
+        let _ = eprintln!(console.rt; "  {advice}");
     }
 }
 
 /// Reports why a query is refused. Memory is reported at the command's end.
-fn say_query_fault<R: Runtime>(rt: &R, fault: QueryFault) {
+fn say_query_fault<R: Runtime>(console: &Console<R>, fault: QueryFault) {
     if fault != QueryFault::Memory {
-        let cause = fault.name();
-        let _ = eprintln!(rt; "warcdx: query: {cause}");
-        say_advice(rt, Some(query_advice(fault)));
+        let (program, cause) = (console.program(), fault.name());
+        let _ = eprintln!(console.rt; "{program}: query: {cause}");
+        say_advice(console, Some(query_advice(fault)));
     }
 }
 
 /// Reports why a query of this text is refused, with what isn't the name of a parameter.
-pub fn say_refusal<R: Runtime>(rt: &R, text: &str, fault: QueryFault) {
+pub fn say_refusal<R: Runtime>(console: &Console<R>, text: &str, fault: QueryFault) {
     match unknown_parameter(text) {
-        Some(name) if fault == QueryFault::Unknown => say_unknown(rt, name, fault),
-        _ => say_query_fault(rt, fault),
+        Some(name) if fault == QueryFault::Unknown => say_unknown(console, name, fault),
+        _ => say_query_fault(console, fault),
     }
 }
 
 /// Reports that a query has a name that isn't that of a parameter.
-fn say_unknown<R: Runtime>(rt: &R, name: &str, fault: QueryFault) {
+fn say_unknown<R: Runtime>(console: &Console<R>, name: &str, fault: QueryFault) {
+    let program = console.program();
     let (cause, advice) = (fault.name(), query_advice(fault));
-    let _ = eprintln!(rt; "warcdx: query: {cause}");
+    let _ = eprintln!(console.rt; "{program}: query: {cause}");
     let _ = if is_plain(name) {
-        eprintln!(rt; "  '{name}' isn't a parameter. {advice}")
+        eprintln!(console.rt; "  '{name}' isn't a parameter. {advice}")
     } else if is_address(name) {
-        eprintln!(rt;
+        eprintln!(console.rt;
             "  A query precedes the indexes, and a URL in it is written as url=example.com. {advice}"
         )
     } else {
-        eprintln!(rt; "  {advice}")
+        eprintln!(console.rt; "  {advice}")
     };
 }
 
 /// Returns the outcome of a call on indexes of these names. A fault of an index is reported on standard error.
 pub fn answered_outcome<R: Runtime, T: Drop>(
-    rt: &R,
+    console: &Console<R>,
     names: &[String],
     answer: Result<T, AnswerFault>,
 ) -> Outcome
@@ -88,14 +95,14 @@ pub fn answered_outcome<R: Runtime, T: Drop>(
     match answer {
         Ok(_) => Outcome::Done,
         Err(fault) => {
-            say_source_fault(rt, names, fault);
+            say_source_fault(console, names, fault);
             Outcome::Answer(fault)
         }
     }
 }
 
 /// Reports a fault of a call on several indexes under the name of the index concerned, if there is one.
-fn say_source_fault<R: Runtime>(rt: &R, names: &[String], fault: AnswerFault) {
+fn say_source_fault<R: Runtime>(console: &Console<R>, names: &[String], fault: AnswerFault) {
     let source = match fault {
         AnswerFault::Read(source) => source,
         AnswerFault::BadLine(source, _offset) => source,
@@ -103,33 +110,33 @@ fn say_source_fault<R: Runtime>(rt: &R, names: &[String], fault: AnswerFault) {
         _ => return,
     };
     if let Some(name) = names.get(source) {
-        say_answer_fault(rt, name, fault);
+        say_answer_fault(console, name, fault);
     }
 }
 
 /// Reports a fault of the index of this name. Memory and a failed output are reported at the command's end.
-pub fn say_answer_fault<R: Runtime>(rt: &R, name: &str, fault: AnswerFault) {
-    let cause = fault.name();
+pub fn say_answer_fault<R: Runtime>(console: &Console<R>, name: &str, fault: AnswerFault) {
+    let (program, cause) = (console.program(), fault.name());
     match fault {
         AnswerFault::Read(_source) => {
-            let _ = eprintln!(rt; "warcdx: {name}: {cause}");
+            let _ = eprintln!(console.rt; "{program}: {name}: {cause}");
         }
         AnswerFault::BadLine(_source, offset) | AnswerFault::OutOfOrder(_source, offset) => {
-            let _ = eprintln!(rt; "warcdx: {name}: {cause} {offset}");
+            let _ = eprintln!(console.rt; "{program}: {name}: {cause} {offset}");
         }
         _ => {}
     }
-    say_advice(rt, answer_advice(rt, name, fault));
+    say_advice(console, answer_advice(console.rt, name, fault));
 }
 
 /// Reports why archives of these names couldn't be scanned. A fault of no single archive is reported at the command's
 /// end.
-pub fn say_scan_fault<R: Runtime>(rt: &R, names: &[String], fault: ScanFault) {
+pub fn say_scan_fault<R: Runtime>(console: &Console<R>, names: &[String], fault: ScanFault) {
     match fault {
-        ScanFault::Query(fault) => say_query_fault(rt, fault),
+        ScanFault::Query(fault) => say_query_fault(console, fault),
         ScanFault::Archive(archive, fault) => {
             if let Some(name) = names.get(archive) {
-                say_fault(rt, name, fault);
+                say_fault(console, name, fault);
             }
         }
         ScanFault::Answer(_fault) => {}

@@ -6,6 +6,7 @@
 mod advice;
 mod archive_names;
 mod checks;
+mod console;
 mod conversing;
 mod each;
 mod exit_status;
@@ -22,8 +23,10 @@ mod reports;
 mod scanning;
 mod standard_input;
 
+pub use crate::console::Console;
 pub use crate::exit_status::{status, status_zero_is_done};
-pub use crate::opening::{Opener, System};
+pub use crate::opening::{ArchiveOver, Opener, System, SystemInput};
 pub use crate::outcome::Outcome;
-pub use crate::program::{perform, run};
+pub use crate::program::{perform, run_warcdx};
 pub use crate::standard_input::StandardInput;
+pub use command_line::Program;

@@ -5,6 +5,7 @@ ghost use Rattle.tasks.specs.Merging.{MergesIndexes};
 ghost use Rattle.tasks.specs.Opening.{OpensFirst, AreUnopenedIndexes};
 ghost use Rattle.tasks.specs.Writes.{CountsWrites};
 
+use crate::console::Console;
 use crate::faults::answered_outcome;
 use crate::opening::{Opener, open_indexes};
 use crate::outcome::Outcome;
@@ -15,7 +16,7 @@ use warc_core::Output;
 /// Merges the indexes. All of them are opened before the first is read. Faults of an index are reported on standard
 /// error.
 pub fn merge_all<R: Runtime + AllocGlobal, F: Opener, O: Output>(
-    rt: &R,
+    console: &Console<R>,
     files: &F,
     names: &[String],
     out: &mut O,
@@ -27,8 +28,12 @@ pub fn merge_all<R: Runtime + AllocGlobal, F: Opener, O: Output>(
         (O.written out.old) (O.written out.new) (out.new ≡ out.old) result) }
     ensures writes { CountsWrites result (O.failures out.old) (O.failures out.new) }
 {
-    match open_indexes(rt.alloc(), files, names) {
-        Ok(mut indexes) => answered_outcome(rt, names, merge(rt.alloc(), &mut indexes, out)),
+    match open_indexes(console.alloc(), files, names) {
+        Ok(mut indexes) => answered_outcome(
+            console,
+            names,
+            merge(console.alloc(), &mut indexes, out),
+        ),
         Err(outcome) => outcome,
     }
 }

@@ -1,23 +1,45 @@
 //! The opening of archives and indexes by name.
 ghost use Rattle.std.specs.Prelude.{◌≡◌, ℕ, List, Option, None, ⊤, IfErr, MatchResult, map};
 ghost use Rattle.command_line.specs.Words.{texts};
-ghost use Rattle.tasks.specs.Opening.{HasTold, IsUnopened, IsUnopenedIndex, AreUnopenedIndexes};
+ghost use Rattle.archives.specs.State.{ToldArchive};
+ghost use Rattle.tasks.specs.Opening.{HasTold, IsPlainUntold, IsUnopened, IsUnopenedIndex};
+ghost use Rattle.tasks.specs.Opening.{AreUnopenedIndexes, OpensAs};
 
 use crate::advice::{NO_PIPE, unread_advice};
+use crate::console::Console;
 use crate::outcome::Outcome;
 use either::Either;
-use index_core::IndexFault;
+use index_core::{Fetch, IndexFault, PlainArchive};
 use query_core::{AnswerFault, FileSource, Source};
 use std::alloc::Global;
 use std::fs::{File, Files};
 use std::io::{self, ErrorKind};
+use std::marker::PhantomData;
 use std::rt::Runtime;
 use warc_core::{FromFile, FromRead, Input, SystemFile};
+
+/// An archive over an input of which nothing was read.
+pub trait ArchiveOver<I>: Fetch + Drop {
+    /// How an archive may be of which no bytes are told.
+    ghost may_be: { ToldArchive → Type 0 };
+
+    /// Creates the archive. If memory or the input fails, its first call says so.
+    fn over(alloc: Global, input: I) -> Self
+        ensures { OpensAs may_be (Self.state result) };
+}
+
+impl<I: Input + Drop> ArchiveOver<I> for PlainArchive<I> {
+    ghost may_be = { IsPlainUntold };
+
+    fn over(alloc: Global, input: I) -> PlainArchive<I> {
+        PlainArchive::new(alloc, input)
+    }
+}
 
 /// What opens archives and indexes by name. The contracts of the commands are stated over the bytes that it opens.
 pub trait Opener {
     /// An archive.
-    type Archive: Input + Drop;
+    type Archive: Fetch + Drop;
 
     /// An index.
     type Index: Source + Drop;
@@ -25,8 +47,8 @@ pub trait Opener {
     /// Standard input.
     type Lines: Input + Drop;
 
-    /// The bytes of the archive of a name, if they are told.
-    ghost archive_bytes: { Self → List ℕ → Option (List ℕ) };
+    /// That the archive of a name may be told so: its form, and its bytes if they are told.
+    ghost tells_archive: { Self → List ℕ → ToldArchive → Type 0 };
 
     /// The bytes of the index of a name, if they are known.
     ghost index_bytes: { Self → List ℕ → Option (List ℕ) };
@@ -43,7 +65,7 @@ pub trait Opener {
     /// Opens the archive of this name; `-` is standard input. Reports on standard error that it can't be opened.
     fn open_archive(&self, name: &str) -> Result<Self::Archive, Outcome>
         ensures { MatchResult result
-            (λ archive. HasTold (archive_bytes self.now name.now) (Self.Archive.remaining archive))
+            (λ archive. OpensAs (tells_archive self.now name.now) (Self.Archive.state archive))
             (IsUnopened (archive_failed self.now name.now)) };
 
     /// Opens the index of this name. Reports on standard error that it can't be opened, or that its size can't be
@@ -58,30 +80,38 @@ pub trait Opener {
         ensures { HasTold (input_bytes self.now) (Self.Lines.remaining result) };
 }
 
-/// The files of the system. The contracts don't know their bytes, nor what becomes of an opening.
+/// An archive of the system, as it is read: standard input, or a file.
+pub type SystemInput<R> = Either<
+    FromRead<<R as io::Input>::Reader>,
+    FromFile<SystemFile<<R as Files>::File>>,
+>;
+
+/// The files of the system, with archives of this type. The contracts don't know their bytes, nor what becomes of an
+/// opening.
 #[derive(Drop)]
-pub struct System<'a, R> {
-    rt: &'a R,
+pub struct System<'a, R, A> {
+    console: &'a Console<'a, R>,
+    archives: PhantomData<A>,
 }
 
-impl<'a, R> System<'a, R> {
+impl<'a, R, A> System<'a, R, A> {
     /// Creates what opens the files of the system.
-    pub fn new(rt: &'a R) -> System<'a, R> {
-        System { rt }
+    pub fn new(console: &'a Console<'a, R>) -> System<'a, R, A> {
+        System {
+            console,
+            archives: PhantomData,
+        }
     }
 }
 
-impl<R: Runtime + AllocGlobal> Opener for System<'_, R> {
-    type Archive = Either<
-        FromRead<<R as io::Input>::Reader>,
-        FromFile<SystemFile<<R as Files>::File>>,
-    >;
+impl<R: Runtime + AllocGlobal, A: ArchiveOver<SystemInput<R>>> Opener for System<'_, R, A> {
+    type Archive = A;
 
     type Index = FileSource<SystemFile<<R as Files>::File>>;
 
     type Lines = FromRead<<R as io::Input>::Reader>;
 
-    ghost archive_bytes = { λ _ _. None };
+    ghost tells_archive = { λ _ _. A.may_be };
 
     ghost index_bytes = { λ _ _. None };
 
@@ -92,29 +122,40 @@ impl<R: Runtime + AllocGlobal> Opener for System<'_, R> {
     ghost index_failed = { λ _ _. ⊤ };
 
     fn open_archive(&self, name: &str) -> Result<Self::Archive, Outcome> {
-        if name == "-" {
-            return Ok(Either::Left(FromRead::new(self.rt.reader())));
-        }
-        match FromFile::new(SystemFile(open_file(self.rt, name)?)) {
-            Ok(file) => Ok(Either::Right(file)),
-            Err(_fault) => Err(cannot_open(self.rt, name)),
-        }
+        Ok(A::over(self.console.alloc(), open_input(self.console, name)?))
     }
 
     fn open_index(&self, name: &str) -> Result<Self::Index, Outcome> {
-        match FileSource::new(SystemFile(open_file(self.rt, name)?)) {
+        match FileSource::new(SystemFile(open_file(self.console, name)?)) {
             Ok(source) => Ok(source),
             Err(_fault) => {
-                let _ = eprintln!(self.rt; "warcdx: {name}: Read");
-                let advice = unread_advice(self.rt, name);
-                let _ = eprintln!(self.rt; "  {advice}");
+                let program = self.console.program();
+                let _ = eprintln!(self.console.rt; "{program}: {name}: Read");
+                let advice = unread_advice(self.console.rt, name);
+                let _ = eprintln!(self.console.rt; "  {advice}");
                 Err(Outcome::Answer(AnswerFault::Read(0)))
             }
         }
     }
 
     fn input(&self) -> Self::Lines {
-        FromRead::new(self.rt.reader())
+        FromRead::new(self.console.rt.reader())
+    }
+}
+
+/// Opens the input of an archive of this name; `-` is standard input.
+fn open_input<R: Runtime + AllocGlobal>(
+    console: &Console<R>,
+    name: &str,
+) -> Result<SystemInput<R>, Outcome>
+    ensures { IfErr result (IsUnopened ⊤) }
+{
+    if name == "-" {
+        return Ok(Either::Left(FromRead::new(console.rt.reader())));
+    }
+    match FromFile::new(SystemFile(open_file(console, name)?)) {
+        Ok(file) => Ok(Either::Right(file)),
+        Err(_fault) => Err(cannot_open(console, name)),
     }
 }
 
@@ -140,17 +181,20 @@ pub fn open_indexes<F: Opener>(
     Ok(indexes)
 }
 
-fn open_file<R: Runtime + AllocGlobal>(rt: &R, name: &str) -> Result<<R as Files>::File, Outcome>
+fn open_file<R: Runtime + AllocGlobal>(
+    console: &Console<R>,
+    name: &str,
+) -> Result<<R as Files>::File, Outcome>
     ensures { IfErr result (IsUnopened ⊤) }
 {
-    match File::open(rt, name) {
+    match File::open(console.rt, name) {
         Ok(file) => Ok(file),
         Err(error) if error.kind() == ErrorKind::OutOfMemory => {
             Err(Outcome::Index(IndexFault::Memory))
         }
         Err(error) => {
-            let outcome = cannot_open(rt, name);
-            say_why(rt, name, &error);
+            let outcome = cannot_open(console, name);
+            say_why(console.rt, name, &error);
             Err(outcome)
         }
     }
@@ -165,9 +209,10 @@ fn say_why<R: Runtime>(rt: &R, name: &str, error: &io::Error) {
 }
 
 /// Reports on standard error that a file can't be opened.
-fn cannot_open<R: Runtime + AllocGlobal>(rt: &R, name: &str) -> Outcome
+fn cannot_open<R: Runtime + AllocGlobal>(console: &Console<R>, name: &str) -> Outcome
     ensures { result ≡ Outcome.CannotOpen }
 {
-    let _ = eprintln!(rt; "warcdx: {name}: cannot open");
+    let program = console.program();
+    let _ = eprintln!(console.rt; "{program}: {name}: cannot open");
     Outcome::CannotOpen
 }

@@ -2,6 +2,7 @@
 ghost use Rattle.std.specs.Prelude.{◌≡◌};
 ghost use Rattle.command_line.specs.Commands.{asked, view};
 ghost use Rattle.command_line.specs.Words.{texts};
+ghost use Rattle.tasks.specs.Opening.{IsPlainUntold};
 ghost use Rattle.tasks.specs.Outcome.{IsHelpOutcome};
 ghost use Rattle.tasks.specs.Performing.{IsDone, Performs};
 ghost use Rattle.tasks.specs.Words.{EndsAsDone, EndsWords};
@@ -9,21 +10,22 @@ ghost use Rattle.tasks.specs.Writes.{CountsWrites};
 
 use crate::advice::end_advice;
 use crate::checks::check_all;
+use crate::console::Console;
 use crate::conversing::serve_all;
 use crate::exit_status::status;
 use crate::faults::say_advice;
 use crate::fetching::fetch;
 use crate::indexing::index_all;
 use crate::merging::merge_all;
-use crate::opening::{Opener, System};
+use crate::opening::{ArchiveOver, Opener, System, SystemInput};
 use crate::outcome::{Outcome, flushed_outcome, message};
 use crate::queries::{answer_query, write_pages};
 use crate::reports::{ArchiveReport, report_on};
 use crate::scanning::scan_all;
 use crate::standard_input::StandardInput;
-use command_line::{Task, WordsFault, read_words};
+use command_line::{Program, Task, WordsFault, read_words};
 use devices::Prompt;
-use index_core::IndexFault;
+use index_core::{IndexFault, PlainArchive};
 use query_core::AnswerFault;
 use std::env::{self, Env, FillError};
 use std::io::{self, BufWriter, ErrorKind, Write};
@@ -38,31 +40,45 @@ const OUTPUT_ROOM: usize = 65_536;
 // The bytes of an argument that are looked at: Linux has no longer file names.
 const ARGUMENT_ROOM: usize = 4_096;
 
-/// Runs the program, and returns its exit status. Of 0 the contract says only that some arguments can end as done. They
+/// Runs `warcdx`, and returns its exit status. Of 0 the contract says only that some arguments can end as done. They
 /// needn't be those of the process, and `--help` is such. So it binds no status: tests compare the statuses of tasks.
-#[tactic(auto, unfolding(crate::specs::Outcome::exit_status_of))]
-pub fn run<R: Runtime + AllocGlobal>(rt: &R, input: StandardInput) -> u8
-    ensures { result ≡ 0 → EndsAsDone }
+pub fn run_warcdx<R: Runtime + AllocGlobal>(rt: &R, input: StandardInput) -> u8
+    ensures { result ≡ 0 → EndsAsDone IsPlainUntold }
 {
-    status(&run_arguments(rt, input))
+    run::<R, PlainArchive<SystemInput<R>>>(&Console::new(rt, Program::Warcdx), input)
+}
+
+/// Runs a program with archives of this type, and returns its exit status.
+#[tactic(auto, unfolding(crate::specs::Outcome::exit_status_of))]
+fn run<R: Runtime + AllocGlobal, A: ArchiveOver<SystemInput<R>>>(
+    console: &Console<R>,
+    input: StandardInput,
+) -> u8
+    ensures { result ≡ 0 → EndsAsDone A.may_be }
+{
+    status(&run_arguments::<R, A>(console, input))
 }
 
 /// Runs the program, and returns its outcome.
-fn run_arguments<R: Runtime + AllocGlobal>(rt: &R, input: StandardInput) -> Outcome
-    ensures { result ≡ Outcome.Done → EndsAsDone }
+fn run_arguments<R: Runtime + AllocGlobal, A: ArchiveOver<SystemInput<R>>>(
+    console: &Console<R>,
+    input: StandardInput,
+) -> Outcome
+    ensures { result ≡ Outcome.Done → EndsAsDone A.may_be }
 {
-    match words(rt) {
+    match words(console.rt) {
         Ok(words) => {
             if words.is_empty() && input == StandardInput::Terminal {
-                let _ = eprintln!(rt;
-                    "warcdx: reading a WARC file from the terminal; see 'warcdx --help'"
+                let program = console.program();
+                let _ = eprintln!(console.rt;
+                    "{program}: reading a WARC file from the terminal; see '{program} --help'"
                 );
             }
-            run_words(rt, &words)
+            run_words::<R, A>(console, &words)
         }
-        Err(error) if error.kind() == ErrorKind::OutOfMemory => say_outcome(rt, MEMORY),
+        Err(error) if error.kind() == ErrorKind::OutOfMemory => say_outcome(console, MEMORY),
         Err(_error) => {
-            say_not_utf8(rt);
+            say_not_utf8(console.rt);
             Outcome::Usage
         }
     }
@@ -100,94 +116,110 @@ fn words<R: Runtime + AllocGlobal>(rt: &R) -> io::Result<Vec<String>> {
     Ok(env::args(rt)?.skip(1).collect(rt.alloc())?)
 }
 
-fn run_words<R: Runtime + AllocGlobal>(rt: &R, words: &[String]) -> Outcome
-    ensures { EndsWords (asked (texts words.now)) result }
+fn run_words<R: Runtime + AllocGlobal, A: ArchiveOver<SystemInput<R>>>(
+    console: &Console<R>,
+    words: &[String],
+) -> Outcome
+    ensures { EndsWords A.may_be (asked (texts words.now)) result }
 {
-    match read_words(rt.alloc(), words) {
-        Ok(task) => run_task(rt, &task),
-        Err(WordsFault::Memory) => say_outcome(rt, MEMORY),
-        Err(WordsFault::Help(text)) => help(rt, &text),
+    match read_words(console.alloc(), console.program, words) {
+        Ok(task) => run_task::<R, A>(console, &task),
+        Err(WordsFault::Memory) => say_outcome(console, MEMORY),
+        Err(WordsFault::Help(text)) => help(console, &text),
         Err(WordsFault::Usage(text)) => {
-            let _ = eprint!(rt; "{text}");
+            let _ = eprint!(console.rt; "{text}");
             Outcome::Usage
         }
     }
 }
 
 /// Reports on standard error what failed at a command's end, if anything did. Returns the outcome.
-fn say_outcome<R: Runtime>(rt: &R, outcome: Outcome) -> Outcome
+fn say_outcome<R: Runtime>(console: &Console<R>, outcome: Outcome) -> Outcome
     ensures { result ≡ outcome }
 {
     if let Some(message) = message(outcome) {
-        let _ = eprintln!(rt; "warcdx: {message}");
+        let program = console.program();
+        let _ = eprintln!(console.rt; "{program}: {message}");
     }
-    say_advice(rt, end_advice(outcome));
+    say_advice(console, end_advice(outcome));
     outcome
 }
 
-fn help<R: Runtime>(rt: &R, text: &str) -> Outcome
+fn help<R: Runtime>(console: &Console<R>, text: &str) -> Outcome
     ensures { IsHelpOutcome result }
 {
-    let printed = print!(rt; "{text}");
-    let outcome = say_outcome(rt, flushed_outcome(Outcome::Done, printed.is_ok()));
+    let printed = print!(console.rt; "{text}");
+    let outcome = say_outcome(console, flushed_outcome(Outcome::Done, printed.is_ok()));
     if let Err(error) = printed {
-        say_reason(rt, outcome, &error);
+        say_reason(console, outcome, &error);
     }
     outcome
 }
 
 /// Performs the task. Its output is standard output.
-fn run_task<R: Runtime + AllocGlobal>(rt: &R, task: &Task) -> Outcome
-    ensures { result ≡ Outcome.Done → IsDone (view task.now) }
+fn run_task<R: Runtime + AllocGlobal, A: ArchiveOver<SystemInput<R>>>(
+    console: &Console<R>,
+    task: &Task,
+) -> Outcome
+    ensures { result ≡ Outcome.Done → IsDone A.may_be (view task.now) }
 {
-    let Ok(mut writer) = BufWriter::with_capacity(rt.alloc(), OUTPUT_ROOM, io::writer(rt)) else {
-        return say_outcome(rt, MEMORY);
+    let Ok(mut writer) = BufWriter::with_capacity(
+        console.alloc(),
+        OUTPUT_ROOM,
+        io::writer(console.rt),
+    ) else {
+        return say_outcome(console, MEMORY);
     };
     let outcome = match task {
-        Task::Serve(_names) => perform_on_system(rt, task, &mut Prompt::new(&mut writer)),
-        _ => perform_on_system(rt, task, &mut FromWrite::new(&mut writer)),
+        Task::Serve(_names) => perform_on_system::<R, A, _>(
+            console,
+            task,
+            &mut Prompt::new(&mut writer),
+        ),
+        _ => perform_on_system::<R, A, _>(console, task, &mut FromWrite::new(&mut writer)),
     };
     let flushed = writer.flush();
-    let outcome = say_outcome(rt, flushed_outcome(outcome, flushed.is_ok()));
+    let outcome = say_outcome(console, flushed_outcome(outcome, flushed.is_ok()));
     if let Err(error) = flushed {
-        say_reason(rt, outcome, &error);
+        say_reason(console, outcome, &error);
     }
     outcome
 }
 
 /// Reports the system's reason on standard error, if the outcome is a failed output.
-fn say_reason<R: Runtime>(rt: &R, outcome: Outcome, reason: &io::Error) {
+fn say_reason<R: Runtime>(console: &Console<R>, outcome: Outcome, reason: &io::Error) {
     match outcome {
         Outcome::Index(IndexFault::Write)
         | Outcome::Answer(AnswerFault::Write)
         | Outcome::CannotFlush => {
-            let _ = eprintln!(rt; "  {reason}");
+            let _ = eprintln!(console.rt; "  {reason}");
         }
         _ => {}
     }
 }
 
 /// Performs the task over the files of the system, with this output.
-fn perform_on_system<R: Runtime + AllocGlobal, O: Output>(
-    rt: &R,
+fn perform_on_system<R: Runtime + AllocGlobal, A: ArchiveOver<SystemInput<R>>, O: Output>(
+    console: &Console<R>,
     task: &Task,
     out: &mut O,
 ) -> Outcome
-    ensures { result ≡ Outcome.Done → IsDone (view task.now) }
+    ensures { result ≡ Outcome.Done → IsDone A.may_be (view task.now) }
 {
-    perform(rt, &System::new(rt), task, out)
+    let files: System<R, A> = System::new(console);
+    perform(console, &files, task, out)
 }
 
 /// Performs the task with this output.
 #[tactic(auto, unfolding(crate::specs::Performing::Performs))]
 pub fn perform<R: Runtime + AllocGlobal, F: Opener, O: Output>(
-    rt: &R,
+    console: &Console<R>,
     files: &F,
     task: &Task,
     out: &mut O,
 ) -> Outcome
     ensures performs { Performs (record {
-      archive_of = F.archive_bytes files.now;
+      TellsArchive = F.tells_archive files.now;
       index_of = F.index_bytes files.now;
       ArchiveFailed = F.archive_failed files.now;
       IndexFailed = F.index_failed files.now;
@@ -197,27 +229,27 @@ pub fn perform<R: Runtime + AllocGlobal, F: Opener, O: Output>(
     ensures writes { CountsWrites result (O.failures out.old) (O.failures out.new) }
 {
     match task {
-        Task::List(names) => report_on(rt, files, names, ArchiveReport::Listing, out),
-        Task::Verify(names) => report_on(rt, files, names, ArchiveReport::Verdicts, out),
+        Task::List(names) => report_on(console, files, names, ArchiveReport::Listing, out),
+        Task::Verify(names) => report_on(console, files, names, ArchiveReport::Verdicts, out),
         Task::Index {
             types,
             input,
             names,
-        } => index_all(rt, files, *types, input.as_deref(), names, out),
-        Task::Merge(names) => merge_all(rt, files, names, out),
-        Task::Check(names) => check_all(rt, files, names, out),
-        Task::Query { query, names } => answer_query(rt, files, query, names, out),
+        } => index_all(console, files, *types, input.as_deref(), names, out),
+        Task::Merge(names) => merge_all(console, files, names, out),
+        Task::Check(names) => check_all(console, files, names, out),
+        Task::Query { query, names } => answer_query(console, files, query, names, out),
         Task::Pages {
             sizes,
             query,
             names,
-        } => write_pages(rt, files, sizes, query, names, out),
-        Task::Serve(names) => serve_all(rt, files, names, &mut files.input(), out),
+        } => write_pages(console, files, sizes, query, names, out),
+        Task::Serve(names) => serve_all(console, files, names, &mut files.input(), out),
         Task::Get {
             length,
             offset,
             name,
-        } => fetch(rt, files, *length, *offset, name, out),
+        } => fetch(console, files, *length, *offset, name, out),
         Task::Scan {
             types,
             input,
@@ -226,7 +258,7 @@ pub fn perform<R: Runtime + AllocGlobal, F: Opener, O: Output>(
             names,
         } => {
             let input = input.as_deref();
-            scan_all(rt, files, *types, input, sizes, query, names, out)
+            scan_all(console, files, *types, input, sizes, query, names, out)
         }
     }
 }

@@ -5,6 +5,7 @@ ghost use Rattle.tasks.specs.Opening.{OpensFirst, AreUnopenedIndexes};
 ghost use Rattle.tasks.specs.Queries.{AnswersPages, AnswersQuery, ReadsFirst, ReadsQuery};
 ghost use Rattle.tasks.specs.Writes.{CountsWrites};
 
+use crate::console::Console;
 use crate::faults::{answered_outcome, say_refusal};
 use crate::opening::{Opener, open_indexes};
 use crate::outcome::Outcome;
@@ -14,7 +15,7 @@ use warc_core::Output;
 
 /// Writes the page that the query text asks for over the indexes of these names. Faults are reported on standard error.
 pub fn answer_query<R: Runtime + AllocGlobal, F: Opener, O: Output>(
-    rt: &R,
+    console: &Console<R>,
     files: &F,
     query: &str,
     names: &[String],
@@ -27,15 +28,15 @@ pub fn answer_query<R: Runtime + AllocGlobal, F: Opener, O: Output>(
         (O.written out.old) (O.written out.new) (out.new ≡ out.old) result)) }
     ensures writes { CountsWrites result (O.failures out.old) (O.failures out.new) }
 {
-    match read_query(rt, query) {
-        Ok(query) => open_and_answer(rt, files, &query, names, out),
+    match read_query(console, query) {
+        Ok(query) => open_and_answer(console, files, &query, names, out),
         Err(outcome) => outcome,
     }
 }
 
 /// Opens the indexes of these names, and writes the page of the query.
 fn open_and_answer<R: Runtime + AllocGlobal, F: Opener, O: Output>(
-    rt: &R,
+    console: &Console<R>,
     files: &F,
     query: &Query,
     names: &[String],
@@ -48,11 +49,11 @@ fn open_and_answer<R: Runtime + AllocGlobal, F: Opener, O: Output>(
         (O.written out.old) (O.written out.new) (out.new ≡ out.old) result) }
     ensures writes { CountsWrites result (O.failures out.old) (O.failures out.new) }
 {
-    match open_indexes(rt.alloc(), files, names) {
+    match open_indexes(console.alloc(), files, names) {
         Ok(mut indexes) => answered_outcome(
-            rt,
+            console,
             names,
-            answer(rt.alloc(), &mut indexes, query, out),
+            answer(console.alloc(), &mut indexes, query, out),
         ),
         Err(outcome) => outcome,
     }
@@ -61,7 +62,7 @@ fn open_and_answer<R: Runtime + AllocGlobal, F: Opener, O: Output>(
 /// Writes all pages of the query text, each of its size. The last size is repeated. Faults are reported on standard
 /// error.
 pub fn write_pages<R: Runtime + AllocGlobal, F: Opener, O: Output>(
-    rt: &R,
+    console: &Console<R>,
     files: &F,
     sizes: &[u64],
     query: &str,
@@ -75,15 +76,15 @@ pub fn write_pages<R: Runtime + AllocGlobal, F: Opener, O: Output>(
         (O.written out.old) (O.written out.new) (out.new ≡ out.old) result)) }
     ensures writes { CountsWrites result (O.failures out.old) (O.failures out.new) }
 {
-    match read_query(rt, query) {
-        Ok(query) => open_and_write_pages(rt, files, sizes, &query, names, out),
+    match read_query(console, query) {
+        Ok(query) => open_and_write_pages(console, files, sizes, &query, names, out),
         Err(outcome) => outcome,
     }
 }
 
 /// Opens the indexes of these names, and writes the pages of the query.
 fn open_and_write_pages<R: Runtime + AllocGlobal, F: Opener, O: Output>(
-    rt: &R,
+    console: &Console<R>,
     files: &F,
     sizes: &[u64],
     query: &Query,
@@ -97,24 +98,27 @@ fn open_and_write_pages<R: Runtime + AllocGlobal, F: Opener, O: Output>(
         (O.written out.old) (O.written out.new) (out.new ≡ out.old) result) }
     ensures writes { CountsWrites result (O.failures out.old) (O.failures out.new) }
 {
-    match open_indexes(rt.alloc(), files, names) {
+    match open_indexes(console.alloc(), files, names) {
         Ok(mut indexes) => answered_outcome(
-            rt,
+            console,
             names,
-            pages(rt.alloc(), &mut indexes, query, sizes, out),
+            pages(console.alloc(), &mut indexes, query, sizes, out),
         ),
         Err(outcome) => outcome,
     }
 }
 
 /// Reads a query text. Why it is refused is reported on standard error.
-pub fn read_query<R: Runtime + AllocGlobal>(rt: &R, text: &str) -> Result<Query, Outcome>
+pub fn read_query<R: Runtime + AllocGlobal>(
+    console: &Console<R>,
+    text: &str,
+) -> Result<Query, Outcome>
     ensures { ReadsQuery text.now result }
 {
-    match Query::read(rt.alloc(), text) {
+    match Query::read(console.alloc(), text) {
         Ok(query) => Ok(query),
         Err(fault) => {
-            say_refusal(rt, text, fault);
+            say_refusal(console, text, fault);
             Err(Outcome::Query(fault))
         }
     }

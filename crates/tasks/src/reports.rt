@@ -1,5 +1,6 @@
 //! Reports on archives, one archive after another.
-ghost use Rattle.std.specs.Prelude.{◌≡◌, MatchResult};
+ghost use Rattle.std.specs.Prelude.{◌≡◌, IfOk, MatchResult};
+ghost use Rattle.archives.specs.State.{IsUnread, told_of};
 ghost use Rattle.devices.specs.Device.{CountsFailure};
 ghost use Rattle.devices.specs.Writing.{WritesText};
 ghost use Rattle.index_core.specs.Counting.{CountsInput};
@@ -8,14 +9,14 @@ ghost use Rattle.tasks.specs.Outcome.{answer_of};
 ghost use Rattle.tasks.specs.Reports.{ReportsOn, ReportsOnOne, WritesReport, WritesBelow, heading, heading_among};
 ghost use Rattle.tasks.specs.Writes.{CountsWrites};
 
+use crate::console::Console;
 use crate::each::with_each;
 use crate::opening::Opener;
 use crate::outcome::{Outcome, outcome_of, verification_outcome};
 use devices::DeviceFault;
-use index_core::{IndexFault, list, verify};
-use std::alloc::Global;
+use index_core::{Archive, IndexFault, list, verify};
 use std::rt::Runtime;
-use warc_core::{Input, Output, put};
+use warc_core::{Output, put};
 
 /// The kind of a report on an archive.
 #[derive(Clone, Copy)]
@@ -28,13 +29,13 @@ pub enum ArchiveReport {
 
 /// Writes the report on each archive. If there are several archives, each report stands under the name of its archive.
 pub fn report_on<R: Runtime + AllocGlobal, F: Opener, O: Output>(
-    rt: &R,
+    console: &Console<R>,
     files: &F,
     names: &[String],
     report: ArchiveReport,
     out: &mut O,
 ) -> Outcome
-    ensures report { ReportsOn (F.archive_bytes files.now) (F.archive_failed files.now) report
+    ensures report { ReportsOn (F.tells_archive files.now) (F.archive_failed files.now) report
         (texts names.now) (O.written out.old) (O.written out.new) result }
     ensures writes { CountsWrites result (O.failures out.old) (O.failures out.new) }
 {
@@ -43,63 +44,54 @@ pub fn report_on<R: Runtime + AllocGlobal, F: Opener, O: Output>(
         names,
         out,
         |out, name|
-            ensures report { ReportsOnOne (F.archive_bytes files.entry.now)
+            ensures report { ReportsOnOne (F.tells_archive files.entry.now)
                 (F.archive_failed files.entry.now) report among
                 (O.written out.old) name.now result (O.written out.new) }
             ensures writes { CountsWrites result (O.failures out.old) (O.failures out.new) }
-        {
-            report_on_opened(
-                rt.alloc(),
-                name,
-                among,
-                report,
-                files.open_archive(name),
-                out,
-            )
-        },
+        { report_on_opened(name, among, report, files.open_archive(name), out) },
     )
 }
 
 /// Writes the report on an archive, unless it couldn't be opened. `among` is the number of archives.
-fn report_on_opened<I: Input + Drop, O: Output>(
-    alloc: Global,
+fn report_on_opened<A: Archive + Drop, O: Output>(
     name: &str,
     among: usize,
     report: ArchiveReport,
-    opened: Result<I, Outcome>,
+    opened: Result<A, Outcome>,
     out: &mut O,
 ) -> Outcome
+    requires { IfOk opened (λ archive. IsUnread (A.state archive)) }
     ensures report { MatchResult opened
-        (λ archive. WritesBelow (heading_among among name.now) report (I.remaining archive)
-        result (O.written out.old) (O.written out.new))
+        (λ archive. WritesBelow (heading_among among name.now) report
+        (told_of (A.state archive)) result (O.written out.old) (O.written out.new))
         (λ outcome. (result ≡ outcome) × (out.new ≡ out.old)) }
     ensures writes { MatchResult opened
         (λ _. CountsWrites result (O.failures out.old) (O.failures out.new))
         (λ _. out.new ≡ out.old) }
 {
     match opened {
-        Ok(mut archive) => report_below(alloc, name, among, report, &mut archive, out),
+        Ok(mut archive) => report_below(name, among, report, &mut archive, out),
         Err(outcome) => outcome,
     }
 }
 
 /// Writes the report below its archive's heading.
-fn report_below<I: Input, O: Output>(
-    alloc: Global,
+fn report_below<A: Archive, O: Output>(
     name: &str,
     among: usize,
     report: ArchiveReport,
-    archive: &mut I,
+    archive: &mut A,
     out: &mut O,
 ) -> Outcome
-    ensures report { WritesBelow (heading_among among name.now) report (I.remaining archive.old)
-        result (O.written out.old) (O.written out.new) }
-    ensures reads { CountsInput (answer_of result) (I.failures archive.old)
-        (I.failures archive.new) }
+    requires { IsUnread (A.state archive.old) }
+    ensures report { WritesBelow (heading_among among name.now) report
+        (told_of (A.state archive.old)) result (O.written out.old) (O.written out.new) }
+    ensures reads { CountsInput (answer_of result) (A.state archive.old).failures
+        (A.state archive.new).failures }
     ensures writes { CountsWrites result (O.failures out.old) (O.failures out.new) }
 {
     match put_heading_among(among, name, out) {
-        Ok(()) => write_report(alloc, report, archive, out),
+        Ok(()) => write_report(report, archive, out),
         Err(_) => Outcome::Index(IndexFault::Write),
     }
 }
@@ -126,20 +118,20 @@ fn put_heading<O: Output>(name: &str, out: &mut O) -> Result<(), DeviceFault>
     Ok(())
 }
 
-fn write_report<I: Input, O: Output>(
-    alloc: Global,
+fn write_report<A: Archive, O: Output>(
     report: ArchiveReport,
-    archive: &mut I,
+    archive: &mut A,
     out: &mut O,
 ) -> Outcome
-    ensures report { WritesReport report (I.remaining archive.old) result (O.written out.old)
-        (O.written out.new) }
-    ensures reads { CountsInput (answer_of result) (I.failures archive.old)
-        (I.failures archive.new) }
+    requires { IsUnread (A.state archive.old) }
+    ensures report { WritesReport report (told_of (A.state archive.old)) result
+        (O.written out.old) (O.written out.new) }
+    ensures reads { CountsInput (answer_of result) (A.state archive.old).failures
+        (A.state archive.new).failures }
     ensures writes { CountsWrites result (O.failures out.old) (O.failures out.new) }
 {
     match report {
-        ArchiveReport::Listing => outcome_of(list(alloc, archive, out)),
-        ArchiveReport::Verdicts => verification_outcome(verify(alloc, archive, out)),
+        ArchiveReport::Listing => outcome_of(list(archive, out)),
+        ArchiveReport::Verdicts => verification_outcome(verify(archive, out)),
     }
 }

@@ -4,25 +4,28 @@ ghost use Rattle.capture_core.specs.Types.{includes};
 ghost use Rattle.command_line.specs.Words.{texts};
 ghost use Rattle.tasks.specs.Indexing.{archive_name, bytes_of_name};
 ghost use Rattle.tasks.specs.Opening.{IsUnopened, OpensFirst};
-ghost use Rattle.tasks.specs.Scanning.{AreOpened, ScansArchives, ScansNamed, archive_names, inputs, scan_outcome};
+ghost use Rattle.std.specs.List.{AllByRecursion};
+ghost use Rattle.archives.specs.State.{IsUnread, told_of};
+ghost use Rattle.tasks.specs.Scanning.{AreOpened, ScansArchives, ScansNamed, ScansTold, archive_names, inputs, scan_outcome};
 ghost use Rattle.tasks.specs.Writes.{CountsWrites};
 
 use crate::archive_names::archive_name;
+use crate::console::Console;
 use crate::faults::say_scan_fault;
 use crate::opening::Opener;
 use crate::outcome::Outcome;
 use crate::queries::read_query;
 use capture_core::Types;
-use index_core::IndexFault;
+use index_core::{Archive, IndexFault};
 use scan_core::{Named, ScanFault, scan};
 use std::alloc::{AllocError, Global};
 use std::rt::Runtime;
-use warc_core::{Input, Output};
+use warc_core::Output;
 
 /// Writes the pages of the query text over the captures of these archives' records of these types. Each page has its
 /// size, and the last size is repeated. `input` is the name of standard input. Faults are reported on standard error.
 pub fn scan_all<R: Runtime + AllocGlobal, F: Opener, O: Output>(
-    rt: &R,
+    console: &Console<R>,
     files: &F,
     types: Types,
     input: Option<&str>,
@@ -31,20 +34,20 @@ pub fn scan_all<R: Runtime + AllocGlobal, F: Opener, O: Output>(
     names: &[String],
     out: &mut O,
 ) -> Outcome
-    ensures scans { ScansNamed (F.archive_bytes files.now) (F.archive_failed files.now)
+    ensures scans { ScansNamed (F.tells_archive files.now) (F.archive_failed files.now)
         (includes types) (bytes_of_name input.entry) sizes.now query.now (texts names.now)
         (O.written out.old) (O.written out.new) (out.new ≡ out.old) result }
     ensures writes { CountsWrites result (O.failures out.old) (O.failures out.new) }
 {
-    match read_query(rt, query) {
-        Ok(_query) => open_and_scan(rt, files, types, input, sizes, query, names, out),
+    match read_query(console, query) {
+        Ok(_query) => open_and_scan(console, files, types, input, sizes, query, names, out),
         Err(outcome) => outcome,
     }
 }
 
 /// Opens the archives of these names, and writes the pages of the query over them.
 fn open_and_scan<R: Runtime + AllocGlobal, F: Opener, O: Output>(
-    rt: &R,
+    console: &Console<R>,
     files: &F,
     types: Types,
     input: Option<&str>,
@@ -56,14 +59,13 @@ fn open_and_scan<R: Runtime + AllocGlobal, F: Opener, O: Output>(
     ensures scans { OpensFirst
         (IsUnopened (Any (F.archive_failed files.now) (texts names.now)) result)
         (out.new ≡ out.old)
-        (ScansArchives (includes types)
-        (map (archive_name (bytes_of_name input.entry)) (texts names.now))
-        (map (F.archive_bytes files.now) (texts names.now)) sizes.now query.now
-        (O.written out.old) (O.written out.new) result) }
+        (ScansTold (F.tells_archive files.now) (includes types)
+        (map (archive_name (bytes_of_name input.entry)) (texts names.now)) (texts names.now)
+        sizes.now query.now (O.written out.old) (O.written out.new) result) }
     ensures writes { CountsWrites result (O.failures out.old) (O.failures out.new) }
 {
-    match open_archives(rt.alloc(), files, input, names) {
-        Ok(mut archives) => scan_opened(rt, types, sizes, query, names, &mut archives, out),
+    match open_archives(console.alloc(), files, input, names) {
+        Ok(mut archives) => scan_opened(console, types, sizes, query, names, &mut archives, out),
         Err(outcome) => outcome,
     }
 }
@@ -77,7 +79,7 @@ fn open_archives<F: Opener>(
     names: &[String],
 ) -> Result<Vec<Named<F::Archive>>, Outcome>
     ensures { MatchResult result
-        (λ archives. AreOpened F.Archive.remaining (F.archive_bytes files.now)
+        (λ archives. AreOpened F.Archive.state (F.tells_archive files.now)
         (bytes_of_name input.entry) (texts names.now) archives.items)
         (IsUnopened (Any (F.archive_failed files.now) (texts names.now))) }
 {
@@ -91,40 +93,41 @@ fn open_archives<F: Opener>(
     Ok(archives)
 }
 
-fn push_named<I: Drop>(
+fn push_named<A: Drop>(
     alloc: Global,
-    archives: &mut Vec<Named<I>>,
+    archives: &mut Vec<Named<A>>,
     name: &str,
-    input: I,
+    archive: A,
 ) -> Result<(), AllocError>
     ensures names { IfOk result (λ _.
         archive_names archives.new.items ≡ archive_names archives.old.items ++ name.now ∷ []) }
     ensures inputs { IfOk result (λ _.
-        inputs archives.new.items ≡ inputs archives.old.items ++ input ∷ []) }
+        inputs archives.new.items ≡ inputs archives.old.items ++ archive ∷ []) }
 {
     let name = String::from_str(alloc, name)?;
-    archives.push(Named { name, input })?;
+    archives.push(Named { name, archive })?;
     Ok(())
 }
 
 /// Writes the pages over archives that were opened by these arguments.
-fn scan_opened<R: Runtime + AllocGlobal, I: Input, O: Output>(
-    rt: &R,
+fn scan_opened<R: Runtime + AllocGlobal, A: Archive, O: Output>(
+    console: &Console<R>,
     types: Types,
     sizes: &[u64],
     query: &str,
     names: &[String],
-    archives: &mut [Named<I>],
+    archives: &mut [Named<A>],
     out: &mut O,
 ) -> Outcome
+    requires { AllByRecursion (λ a. IsUnread (A.state a.archive)) archives.old }
     ensures scans { ScansArchives (includes types) (archive_names archives.old)
-        (map (λ a. I.remaining a.input) archives.old) sizes.now query.now (O.written out.old)
+        (map (λ a. told_of (A.state a.archive)) archives.old) sizes.now query.now (O.written out.old)
         (O.written out.new) result }
     ensures writes { CountsWrites result (O.failures out.old) (O.failures out.new) }
 {
-    let answer = scan(rt.alloc(), archives, types, sizes, query, out);
+    let answer = scan(console.alloc(), archives, types, sizes, query, out);
     if let Err(fault) = answer {
-        say_scan_fault(rt, names, fault);
+        say_scan_fault(console, names, fault);
     }
     scan_outcome(answer)
 }

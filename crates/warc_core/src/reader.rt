@@ -1,5 +1,5 @@
 //! A reader of records, one after another, that takes the input at each call.
-ghost use Rattle.std.specs.Prelude.{◌≡◌, ℕ, ◌-◌, ◌^◌, ◌≤◌, ◌⊎◌, [], length, nat_lt, Ok, Err, IfOk, IfErr, OnOk};
+ghost use Rattle.std.specs.Prelude.{◌≡◌, ℕ, ◌-◌, ◌^◌, ◌≤◌, ◌⊎◌, [], length, nat_lt, Ok, Err, IfOk, IfErr, OnOk, MatchResult};
 
 use crate::block::{give_block, pass_over};
 use crate::closing::skip_record;
@@ -54,7 +54,7 @@ impl Reader {
     ghost use Rattle.std.specs.Io.KnownBytes.{prepend_known};
     ghost use Rattle.warc_core.specs.Answers.{causes_of, CountsRead};
     ghost use Rattle.warc_core.specs.Reading.{Reads, past};
-    ghost use Rattle.warc_core.specs.ReaderView.{HasLeft, IfOpen, StandsAt, state_of};
+    ghost use Rattle.warc_core.specs.ReaderView.{FailedBy, HasLeft, IfOpen, StandsAt, state_of};
     ghost use Rattle.warc_core.specs.Calls.{Finishes, GivesBlock, Fills, GoesNext, FinishesAndGoesNext};
 
     /// Creates a reader at the start of an archive, with a buffer of 65,536 bytes.
@@ -77,37 +77,6 @@ impl Reader {
                 offset: 0,
                 cause: Cause::Memory,
             }),
-        }
-    }
-
-    /// Creates a reader at an offset of an archive, in bytes from its start, after it has passed over the bytes before
-    /// it. If the archive has fewer, the reader is at its end.
-    ///
-    /// Errors are `Memory` and `Read`, at this offset.
-    pub fn at<I: Input>(alloc: Global, input: &mut I, offset: u64) -> Result<Reader, Fault>
-        requires { offset ≤ 2 ^ 63 - 1 }
-        ensures stands { IfOk result (λ r. StandsAt r offset Phase.Between) }
-        ensures bytes { IfOk result (λ r. Reads (past offset) (Ok tt) (I.remaining input.old)
-            (prepend_known r.held (I.remaining input.new))) }
-        ensures fault { IfErr result (λ f. f.offset ≡ offset) }
-        ensures cause { IfErr result (λ f. (f.cause ≡ Cause.Memory) ⊎ (f.cause ≡ Cause.Read)) }
-        ensures reads { CountsRead (causes_of result) (I.failures input.old) (I.failures input.new) }
-    {
-        let Ok(mut buffer) = Buffer::new(alloc) else {
-            return Err(Fault {
-                offset,
-                cause: Cause::Memory,
-            });
-        };
-        match pass_over(&mut buffer, input, offset) {
-            Ok(()) => Ok(Reader {
-                alloc,
-                offset,
-                phase: Phase::Between,
-                buffer,
-                spare: None,
-            }),
-            Err(cause) => Err(Fault { offset, cause }),
         }
     }
 
@@ -137,6 +106,30 @@ impl Reader {
         Fault {
             offset: self.offset,
             cause,
+        }
+    }
+
+    /// Passes over what precedes an offset of the archive, in bytes from its start, and stands there. If there are fewer
+    /// bytes, the reader is at the archive's end. What is passed over is not read as records.
+    ///
+    /// The only error is `Read`, at this offset.
+    pub fn pass_to<I: Input>(&mut self, input: &mut I, offset: u64) -> Result<(), Fault>
+        requires between { self.old.phase ≡ Phase.Between }
+        requires ahead { self.old.offset ≤ offset }
+        requires within { offset ≤ 2 ^ 63 - 1 }
+        ensures bytes { Reads (past (offset - self.old.offset)) (causes_of result)
+            (prepend_known self.old.held (I.remaining input.old))
+            (prepend_known self.new.held (I.remaining input.new)) }
+        ensures state { MatchResult result
+            (λ _. StandsAt self.new offset Phase.Between) (FailedBy self.new offset) }
+        ensures cause { IfErr result (λ f. f.cause ≡ Cause.Read) }
+        ensures reads { CountsRead (causes_of result) (I.failures input.old) (I.failures input.new) }
+    {
+        let count = offset - self.offset;
+        self.offset = offset;
+        match pass_over(&mut self.buffer, input, count) {
+            Ok(()) => Ok(()),
+            Err(cause) => Err(self.fail(cause)),
         }
     }
 

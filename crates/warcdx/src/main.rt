@@ -1,11 +1,11 @@
 //! `warcdx`: indexes web archives, answers queries, and fetches records.
 //!
-//! The program is `run` of `tasks`. Its definitions begin there.
+//! The program is `run_warcdx` of `tasks`. Its definitions begin there.
 #![tactic(auto)]
 
 use std::io::IsTerminal;
 use std::process::ExitCode;
-use tasks::{StandardInput, run};
+use tasks::{StandardInput, run_warcdx};
 
 fn main(rt: HostRuntime) -> ExitCode {
     let input = if rt.stdin().is_terminal() {
@@ -13,5 +13,5 @@ fn main(rt: HostRuntime) -> ExitCode {
     } else {
         StandardInput::Other
     };
-    ExitCode::from(run(&rt, input))
+    ExitCode::from(run_warcdx(&rt, input))
 }

@@ -2,6 +2,7 @@
 use super::{INDEX, first_of, indexes, listing, lists, long_archive, written};
 use devices::{FromFile, Fuse, Slice};
 use fixtures::cut;
+use index_core::PlainArchive;
 use std::alloc::Global;
 use std::fs;
 use std::io::Cursor;
@@ -34,8 +35,8 @@ fn reads_to_cut(alloc: Global, part: &[u8]) -> Result<bool, Fail> {
     let wanted = fault.map_or(Ok(records), Err);
     let lines = listing(alloc, records, fault)?;
     let index = first_of(alloc, &INDEX, records)?;
-    let mut listed = FromFile::new(Cursor::new(part))?;
-    let mut indexed = FromFile::new(Cursor::new(part))?;
+    let mut listed = PlainArchive::new(alloc, FromFile::new(Cursor::new(part))?);
+    let mut indexed = PlainArchive::new(alloc, FromFile::new(Cursor::new(part))?);
     Ok(
         lists(alloc, &mut listed, lines.as_slice(), wanted)?
             && indexes(alloc, &mut indexed, index.as_slice(), wanted)?,
@@ -59,10 +60,11 @@ fn a_file_that_was_cut_at_any_byte_is_read_to_its_cut(rt: HostRuntime) -> Result
 #[test]
 fn a_file_that_is_cut_after_it_was_opened_is_damaged(rt: HostRuntime) -> Result<(), Fail> {
     let archive = long_archive(rt.alloc())?;
-    let mut file = written(&rt, "shrunk.warc", &archive)?;
+    let file = written(&rt, "shrunk.warc", &archive)?;
     fs::write(&rt, "shrunk.warc", cut(&archive, 9_000))?;
     let (offset, cause) = (213, Cause::Closing);
     let lines = b"0 213 resource\nfault 213 Closing\n";
+    let mut file = PlainArchive::new(rt.alloc(), file);
     assert!(rt; lists(rt.alloc(), &mut file, lines, Err(Fault { offset, cause }))?);
     Ok(())
 }
@@ -84,8 +86,8 @@ fn ends_at_failed_call(alloc: Global, archive: &[u8], call: u64) -> Result<bool,
     let cause = Cause::Read;
     let fault = Fault { offset, cause };
     let lines = listing(alloc, records, Some(fault))?;
-    let mut input = Fuse::new(Slice::new(archive), 100, call);
-    Ok(lists(alloc, &mut input, &lines, Err(fault))? && input.failures == 1)
+    let mut archive = PlainArchive::new(alloc, Fuse::new(Slice::new(archive), 100, call));
+    Ok(lists(alloc, &mut archive, &lines, Err(fault))? && archive.input().failures == 1)
 }
 
 #[test]
@@ -95,7 +97,8 @@ fn a_listing_ends_at_a_failed_read_or_skip(rt: HostRuntime) -> Result<(), Fail> 
         assert!(rt; ends_at_failed_call(rt.alloc(), &archive, call)?, "{call}");
     }
     let lines = listing(rt.alloc(), 3, None)?;
-    let mut whole = Fuse::new(Slice::new(&archive), 100, 210);
-    assert!(rt; lists(rt.alloc(), &mut whole, &lines, Ok(3))? && whole.calls == 209);
+    let whole = Fuse::new(Slice::new(&archive), 100, 210);
+    let mut whole = PlainArchive::new(rt.alloc(), whole);
+    assert!(rt; lists(rt.alloc(), &mut whole, &lines, Ok(3))? && whole.input().calls == 209);
     Ok(())
 }

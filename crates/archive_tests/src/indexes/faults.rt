@@ -3,7 +3,7 @@ use super::writes;
 use crate::prefixes::prefix_gives;
 use capture_core::{CaptureFault, Types};
 use fixtures::{RESOURCE_LINE, RESPONSE_LINE, Refused, cut, joined, three_records};
-use index_core::{IndexFault, Indexer};
+use index_core::{IndexFault, Indexer, PlainArchive};
 use std::alloc::{AllocError, Global};
 use warc_core::{Cause, Fault, Fuse, Gather, Input, Slice};
 
@@ -33,13 +33,13 @@ fn records_before(offset: u64) -> u64 {
 
 /// Returns `true` if the input, a part of the three records, has this result or is cut short by a failed allocation, and
 /// the indexer then holds the captures of the records before the fault.
-fn keeps<I: Input>(
+fn keeps<I: Input + Drop>(
     alloc: Global,
-    input: &mut I,
+    input: I,
     wanted: Result<u64, Fault>,
 ) -> Result<bool, Refused> {
     let mut indexer = Indexer::new(alloc, Types::usual());
-    let (kept, is_answer) = match indexer.add("b.warc", input) {
+    let (kept, is_answer) = match indexer.add("b.warc", &mut PlainArchive::new(alloc, input)) {
         Ok(count) => (count, wanted == Ok(count)),
         Err(IndexFault::Capture(CaptureFault::Archive(fault))) => (
             records_before(fault.offset),
@@ -55,8 +55,8 @@ fn keeps_of_prefix(alloc: Global, archive: &[u8]) -> Result<bool, Refused> {
     let (records, fault) = prefix_gives(archive.len());
     let wanted = fault.map_or(Ok(records), Err);
     Ok(
-        keeps(alloc, &mut Slice::new(archive), wanted)?
-            && keeps(alloc, &mut Fuse::new(Slice::new(archive), 1, 0), wanted)?,
+        keeps(alloc, Slice::new(archive), wanted)?
+            && keeps(alloc, Fuse::new(Slice::new(archive), 1, 0), wanted)?,
     )
 }
 
@@ -87,9 +87,9 @@ fn an_indexer_keeps_the_records_before_a_failed_read(rt: HostRuntime) -> Result<
     let archive = three_records(rt.alloc())?;
     for call in 1..714 {
         let (offset, cause) = (record_of_read(call), Cause::Read);
-        let mut input = Fuse::new(Slice::new(&archive), 1, call);
+        let input = Fuse::new(Slice::new(&archive), 1, call);
         assert!(rt;
-            keeps(rt.alloc(), &mut input, Err(Fault { offset, cause }))?,
+            keeps(rt.alloc(), input, Err(Fault { offset, cause }))?,
             "{call}"
         );
     }
@@ -120,7 +120,8 @@ fn stops_at_each_write(
 fn stops(alloc: Global, archive: &[u8]) -> Result<bool, Refused> {
     let index = index_of(alloc, 3)?;
     let mut indexer = Indexer::new(alloc, Types::usual());
-    if indexer.add("b.warc", &mut Slice::new(archive)) != Ok(3) {
+    let mut archive = PlainArchive::new(alloc, Slice::new(archive));
+    if indexer.add("b.warc", &mut archive) != Ok(3) {
         return Err(Refused::Memory);
     }
     stops_at_each_write(alloc, &indexer, &index, 3)

@@ -2,14 +2,17 @@
 use super::settled;
 use crate::prefixes::prefix_gives;
 use fixtures::{RESOURCE, RESPONSE, Refused, cut, joined, three_records};
-use index_core::list;
+use index_core::{PlainArchive, list};
 use std::alloc::{AllocError, Global};
 use warc_core::{Cause, Fault, Fuse, Gather, Input, Slice};
 
 /// Returns what `list` writes, and its result.
-fn listed<I: Input>(alloc: Global, input: &mut I) -> Result<(Gather, Result<u64, Fault>), Refused> {
+fn listed<I: Input + Drop>(
+    alloc: Global,
+    input: I,
+) -> Result<(Gather, Result<u64, Fault>), Refused> {
     let mut out = Gather::new(alloc);
-    let answer = settled(list(alloc, input, &mut out))?;
+    let answer = settled(list(&mut PlainArchive::new(alloc, input), &mut out))?;
     Ok((out, answer))
 }
 
@@ -20,8 +23,8 @@ fn lists(
     lines: &[u8],
     answer: Result<u64, Fault>,
 ) -> Result<bool, Refused> {
-    let (whole, count) = listed(alloc, &mut Slice::new(archive))?;
-    let (by_byte, again) = listed(alloc, &mut Fuse::new(Slice::new(archive), 1, 0))?;
+    let (whole, count) = listed(alloc, Slice::new(archive))?;
+    let (by_byte, again) = listed(alloc, Fuse::new(Slice::new(archive), 1, 0))?;
     Ok(whole.bytes() == lines && count == answer && by_byte.bytes() == lines && again == answer)
 }
 
@@ -160,7 +163,7 @@ fn a_listing_ends_at_a_failed_read(rt: HostRuntime) -> Result<(), Refused> {
     let archive = joined(rt.alloc(), &[RESPONSE, RESOURCE])?;
     for at in 1..450 {
         let (lines, fault) = failed_read_gives(at);
-        let (out, answer) = listed(rt.alloc(), &mut Fuse::new(Slice::new(&archive), 1, at))?;
+        let (out, answer) = listed(rt.alloc(), Fuse::new(Slice::new(&archive), 1, at))?;
         assert!(rt; out.bytes() == lines && answer == Err(fault), "{at}");
     }
     Ok(())

@@ -1,7 +1,7 @@
 //! Verdicts on the blocks of archives.
 use super::settled;
 use fixtures::{RESPONSE, Refused, joined, padded};
-use index_core::{Verified, verify};
+use index_core::{PlainArchive, Verified, verify};
 use std::alloc::Global;
 use warc_core::{Cause, Fault, Fuse, Gather, Input, Slice};
 
@@ -98,12 +98,12 @@ const FIELDS: &[(&[u8], &[u8])] = &[
 ];
 
 /// Returns what `verify` writes, and its result.
-fn verified<I: Input>(
+fn verified<I: Input + Drop>(
     alloc: Global,
-    input: &mut I,
+    input: I,
 ) -> Result<(Gather, Result<Verified, Fault>), Refused> {
     let mut out = Gather::new(alloc);
-    let answer = settled(verify(alloc, input, &mut out))?;
+    let answer = settled(verify(&mut PlainArchive::new(alloc, input), &mut out))?;
     Ok((out, answer))
 }
 
@@ -114,8 +114,8 @@ fn verifies(
     lines: &[u8],
     answer: Result<Verified, Fault>,
 ) -> Result<bool, Refused> {
-    let (whole, counts) = verified(alloc, &mut Slice::new(archive))?;
-    let (by_byte, again) = verified(alloc, &mut Fuse::new(Slice::new(archive), 1, 0))?;
+    let (whole, counts) = verified(alloc, Slice::new(archive))?;
+    let (by_byte, again) = verified(alloc, Fuse::new(Slice::new(archive), 1, 0))?;
     Ok(whole.bytes() == lines && counts == answer && by_byte.bytes() == lines && again == answer)
 }
 
@@ -162,8 +162,8 @@ const FAILED_READS: &[(u64, &[u8], u64)] = &[
 fn a_verification_ends_at_a_failed_read(rt: HostRuntime) -> Result<(), Refused> {
     let archive = joined(rt.alloc(), &[RESOURCE, OTHER, RESPONSE])?;
     for (at, lines, offset) in FAILED_READS {
-        let mut input = Fuse::new(Slice::new(&archive), 1, *at);
-        let (out, answer) = verified(rt.alloc(), &mut input)?;
+        let input = Fuse::new(Slice::new(&archive), 1, *at);
+        let (out, answer) = verified(rt.alloc(), input)?;
         let (offset, cause) = (*offset, Cause::Read);
         assert!(rt;
             out.bytes() == *lines && answer == Err(Fault { offset, cause }),

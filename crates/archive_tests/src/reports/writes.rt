@@ -1,6 +1,6 @@
 //! Reports whose output fails.
 use fixtures::{Refused, cut, damaged_archive};
-use index_core::{IndexFault, list, verify};
+use index_core::{IndexFault, PlainArchive, list, verify};
 use std::alloc::Global;
 use warc_core::{Fuse, Gather, Slice};
 
@@ -23,9 +23,10 @@ fn report_fault(
     archive: &[u8],
     out: &mut Fuse<Gather>,
 ) -> Option<IndexFault> {
+    let mut archive = PlainArchive::new(alloc, Slice::new(archive));
     match report {
-        Report::Listing => list(alloc, &mut Slice::new(archive), out).err(),
-        Report::Verdicts => verify(alloc, &mut Slice::new(archive), out).err(),
+        Report::Listing => list(&mut archive, out).err(),
+        Report::Verdicts => verify(&mut archive, out).err(),
     }
 }
 

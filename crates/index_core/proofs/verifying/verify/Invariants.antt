@@ -1,22 +1,24 @@
-use Rattle.index_core.proofs.Words.{◌≡◌, ◌≤◌, ◌-◌, ◌^◌, prepend_known, HEAD_LIMIT, Between}
-use Rattle.index_core.specs.Form.{plain}
+use Rattle.index_core.proofs.Words.{◌≡◌, ◌≤◌, ◌-◌, ◌^◌}
+use Rattle.std.proofs.Common.{true}
+use Rattle.archives.specs.Packing.{form_of}
 use Rattle.index_core.proofs.ReportLemmas.{Reporting}
 use Rattle.index_core.proofs.VerdictLemmas.{verification}
 use Rattle.index_core.proofs.verifying.verify.Given as goal
 
-abbrev pub invariant-loop-reader : goal.invariant-loop-reader
-invariant-loop-reader g l = record {
-  phase : l.reader.phase ≡ Between;
-  within : l.reader.offset ≤ 2 ^ 63 - 1;
-  fewer : l.records ≤ l.reader.offset;
+abbrev pub invariant-loop-record : goal.invariant-loop-record
+invariant-loop-record g l = record {
+  readable : (g.A.Archive.state l.archive).is_open ≡ true;
+  packing : (g.A.Archive.state l.archive).packing ≡ (g.A.Archive.state l.fn.archive).packing;
+  within : (g.A.Archive.state l.archive).offset ≤ 2 ^ 63 - 1;
+  fewer : l.records ≤ (g.A.Archive.state l.archive).offset;
   among : l.differing ≤ l.records;
-  reporting : Reporting (plain HEAD_LIMIT) verification (g.I.Input.remaining l.fn.input)
-      (prepend_known l.reader.held (g.I.Input.remaining l.input)) l.reader.offset
+  reporting : Reporting (form_of (g.A.Archive.state l.fn.archive).packing) verification
+      (g.A.Archive.state l.fn.archive).ahead (g.A.Archive.state l.archive).ahead (g.A.Archive.state l.archive).offset
       (record { records = l.records; differing = l.differing }) (g.O.Output.written l.fn.out)
       (g.O.Output.written l.out);
-  reads : g.I.Input.failures l.input ≡ g.I.Input.failures l.fn.input;
+  reads : (g.A.Archive.state l.archive).failures ≡ (g.A.Archive.state l.fn.archive).failures;
   writes : g.O.Output.failures l.out ≡ g.O.Output.failures l.fn.out;
 }
 
-abbrev pub decreases-loop-reader : goal.decreases-loop-reader
-decreases-loop-reader g l = 2 ^ 63 - l.reader.offset
+abbrev pub decreases-loop-record : goal.decreases-loop-record
+decreases-loop-record g l = 2 ^ 63 - (g.A.Archive.state l.archive).offset

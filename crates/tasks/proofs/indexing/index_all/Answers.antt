@@ -8,9 +8,9 @@ use Rattle.tasks.proofs.indexing.index_all.Goals as goal
 
 pub returns-clause-indexes : goal.returns-clause-indexes
 returns-clause-indexes g c =
-    let bytes_of = g.F.Opener.archive_bytes c.args.files.now in
+    let tells = g.F.Opener.tells_archive c.args.files.now in
     let added = c.with_each-added.result in
-    let over = goes_over-calls _ _ (AddsOne bytes_of (g.F.Opener.archive_failed c.args.files.now) (bytes_of_name c.args.input)) (λ held. held)
+    let over = goes_over-calls _ _ (AddsOne tells (g.F.Opener.archive_failed c.args.files.now) (bytes_of_name c.args.input)) (λ held. held)
     (λ indexer name ended left met. search rules) _ _ _ _ _ c.with_each-added.ensures in (
       c.with_each-added.new.state,
       added,

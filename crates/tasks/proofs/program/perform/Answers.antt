@@ -15,7 +15,7 @@ returns-in-Scan-clause-performs g c =
     let task = c.in-Scan in
     let old = c.args.out.now in
     let new = c.scan_all.new.out in
-    let scans = ScansNamed (g.F.Opener.archive_bytes c.args.files.now)
+    let scans = ScansNamed (g.F.Opener.tells_archive c.args.files.now)
     (g.F.Opener.archive_failed c.args.files.now) (includes task.types) in
     let ends : Option (List ℕ) → List ℕ → List ℕ → List (String Global)
     → Type 0 = λ given sizes query names. scans given sizes query (texts names) (g.O.Output.written old)

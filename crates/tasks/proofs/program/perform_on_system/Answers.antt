@@ -11,9 +11,10 @@ returns g c done =
     let before = g.O.Output.written c.args.out.now in
     let after = g.O.Output.written c.perform.new.out in
     let task = view c.args.task.now in
-    let ends : Outcome → Type 0 = λ outcome. Performs system_files before after ⊤ outcome task in
+    let files = system_files g.A.ArchiveOver.may_be in
+    let ends : Outcome → Type 0 = λ outcome. Performs files before after ⊤ outcome task in
     record {
       before = before;
       after = after;
-      performs = subst ends done (performs_less (λ _. tt) system_files before after c.perform.result task c.perform.ensures.performs);
+      performs = subst ends done (performs_less (λ _. tt) files before after c.perform.result task c.perform.ensures.performs);
     }

@@ -14,7 +14,7 @@ pub returns-clause-report : goal.returns-clause-report
 returns-clause-report g c =
     let given = c.args.names.now in
     let names = texts given in
-    let One = ReportsOnOne (g.F.Opener.archive_bytes c.args.files.now) (g.F.Opener.archive_failed c.args.files.now)
+    let One = ReportsOnOne (g.F.Opener.tells_archive c.args.files.now) (g.F.Opener.archive_failed c.args.files.now)
     c.args.report in
     let written = g.O.Output.written in
     let over = goes_over-calls _ _ (One (length given)) written

@@ -6,5 +6,5 @@ use Rattle.tasks.proofs.scanning.open_archives.Given as goal
 
 abbrev pub invariant-loop-name : goal.invariant-loop-name
 invariant-loop-name g l =
-    AreOpened g.F.Archive.Input.remaining (g.F.Opener.archive_bytes l.files) (bytes_of_name l.input)
+    AreOpened g.F.Archive.Archive.state (g.F.Opener.tells_archive l.files) (bytes_of_name l.input)
     (texts (take l.name-index l.names)) l.archives.items

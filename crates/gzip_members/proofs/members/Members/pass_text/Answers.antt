@@ -1,4 +1,5 @@
 use Rattle.std.proofs.Common.{◌∙◌, sym}
+use Rattle.std.specs.Io.KnownBytes.{prepend_known}
 use Rattle.gzip_members.specs.Left.{left_of}
 use Rattle.gzip_members.proofs.EndLemmas.{no-text}
 use Rattle.gzip_members.proofs.RestLemmas.{at-end, given-ahead, passed-text}
@@ -13,6 +14,6 @@ returns-then-has_text-clause-passes g c =
 
 pub returns-else-has_text-clause-none : goal.returns-else-has_text-clause-none
 returns-else-has_text-clause-none g c = λ none text behind e.
-    let b = c.fill.new.self.body in
-    no-text b c.fill.new.self.source.passed _ text behind c.in_ok-fill.ensures.stops
+    let b = c.fill.new.self.body in let source = c.fill.new.self.source in
+    no-text b source.passed (prepend_known source.ahead (g.I.Input.remaining source.input)) text behind c.in_ok-fill.ensures.stops
     (at-end _ _ (sym c.has_text-has_text.ensures ∙ c.if-has_text.false)) e

@@ -6,6 +6,8 @@ ghost use Rattle.cdxj_core.specs.declared.limit.TheConstants.{LINE_LIMIT};
 ghost use Rattle.cdxj_core.specs.Indexes.{IsIndex};
 ghost use Rattle.devices.specs.Gathered.{gathered};
 ghost use Rattle.index_core.specs.Counting.{CountsIndex};
+ghost use Rattle.std.specs.List.{AllByRecursion};
+ghost use Rattle.archives.specs.State.{IsUnread, told_of};
 ghost use Rattle.scan_core.specs.Archives.{HasIndex, HaveIndexes, HaveLines, IsFaultOfArchive};
 ghost use Rattle.scan_core.specs.Archives.{IsNameFault, index_members};
 ghost use Rattle.scan_core.specs.Failures.{CountsInputs};
@@ -14,8 +16,8 @@ ghost use Rattle.scan_core.specs.Scanning.{LeavesUnread, IsArchiveFault};
 use crate::fault::ScanFault;
 use crate::named::Named;
 use capture_core::Types;
-use devices::{Gather, Input};
-use index_core::{IndexFault, Indexer};
+use devices::Gather;
+use index_core::{Archive, IndexFault, Indexer};
 use std::alloc::Global;
 
 /// Returns the index of the captures that an indexer holds.
@@ -33,26 +35,27 @@ fn index_of(alloc: Global, indexer: &Indexer) -> Result<Gather, IndexFault>
 }
 
 /// Indexes an archive. The indexer holds no captures before or after, and the names of the archives up to this one.
-fn index_archive<I: Input>(
+fn index_archive<A: Archive>(
     alloc: Global,
     indexer: &mut Indexer,
-    archive: &mut Named<I>,
+    archive: &mut Named<A>,
 ) -> Result<Gather, IndexFault>
-    requires { indexer.old.captures ≡ [] }
+    requires empty { indexer.old.captures ≡ [] }
+    requires unread { IsUnread (A.state archive.old.archive) }
     ensures name { archive.new.name ≡ archive.old.name }
     ensures held { OnOk result
         (indexer.new ≡ record indexer.old
         { names = indexer.old.names ++ string_bytes archive.old.name ∷ []; captures = [] }) }
     ensures index { IfOk result (λ index. HasIndex (includes indexer.old.types) indexer.old.names
-        (string_bytes archive.old.name) (I.remaining archive.old.input) (gathered index)) }
+        (string_bytes archive.old.name) (told_of (A.state archive.old.archive)) (gathered index)) }
     ensures refused { IfErr result
         (IsFaultOfArchive (includes indexer.old.types) indexer.old.names
-        (string_bytes archive.old.name) (I.remaining archive.old.input)) }
+        (string_bytes archive.old.name) (told_of (A.state archive.old.archive))) }
     ensures unread { IfErr result (λ fault. IsNameFault fault → archive.new ≡ archive.old) }
-    ensures failures { CountsIndex result (I.failures archive.old.input)
-        (I.failures archive.new.input) }
+    ensures failures { CountsIndex result (A.state archive.old.archive).failures
+        (A.state archive.new.archive).failures }
 {
-    indexer.add(archive.name.as_str(), &mut archive.input)?;
+    indexer.add(archive.name.as_str(), &mut archive.archive)?;
     let index = index_of(alloc, indexer);
     indexer.forget_captures();
     index
@@ -60,23 +63,24 @@ fn index_archive<I: Input>(
 
 /// Indexes the archives' records of these types, each archive into its own index.
 /// Errors are the first fault of an archive, or of its name.
-pub fn index_archives<I: Input>(
+pub fn index_archives<A: Archive>(
     alloc: Global,
-    inputs: &mut [Named<I>],
+    inputs: &mut [Named<A>],
     types: Types,
 ) -> Result<Vec<Gather>, ScanFault>
+    requires { AllByRecursion (λ n. IsUnread (A.state n.archive)) inputs.old }
     ensures names { map (λ n. string_bytes n.name) inputs.new
         ≡ map (λ n. string_bytes n.name) inputs.old }
     ensures indexes { IfOk result (λ indexes. HaveIndexes (includes types)
-        (map (λ n. string_bytes n.name) inputs.old) (map (λ n. I.remaining n.input) inputs.old)
+        (map (λ n. string_bytes n.name) inputs.old) (map (λ n. told_of (A.state n.archive)) inputs.old)
         (map gathered indexes.items)) }
     ensures number { IfOk result (λ indexes. length indexes.items ≡ length inputs.old) }
     ensures refused { IfErr result
         (IsArchiveFault (includes types) (map (λ n. string_bytes n.name) inputs.old)
-        (map (λ n. I.remaining n.input) inputs.old)) }
+        (map (λ n. told_of (A.state n.archive)) inputs.old)) }
     ensures unread { IfErr result (LeavesUnread inputs.old inputs.new) }
-    ensures failures { CountsInputs result (map (λ n. I.failures n.input) inputs.old)
-        (map (λ n. I.failures n.input) inputs.new) }
+    ensures failures { CountsInputs result (map (λ n. (A.state n.archive).failures) inputs.old)
+        (map (λ n. (A.state n.archive).failures) inputs.new) }
 {
     let mut indexer = Indexer::new(alloc, types);
     let mut indexes = Vec::new(alloc);
