@@ -6,8 +6,11 @@ pub mod CaptureLemmas
 pub mod MemberLengths
 pub mod PackedLemmas
 pub mod PackingLemmas
+pub mod LookedLemmas
 pub mod MemberLemmas
 pub mod OpeningLemmas
 pub mod WalkingLemmas
+pub mod FailedLemmas
 pub mod RecordLemmas
 pub mod TakingLemmas
+pub mod MemberCaptureLemmas

@@ -6,3 +6,7 @@ pub mod State
 pub mod Walking
 pub mod Captures
 pub mod Plain
+pub mod MemberCaptures
+pub mod Looked
+pub mod Either
+pub mod Failed

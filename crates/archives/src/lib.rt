@@ -4,7 +4,11 @@
 #![tactic(auto)]
 
 mod archive;
+mod either_archive;
+mod failed_archive;
+mod looked;
 mod member_bounds;
+mod member_captures;
 mod member_opening;
 mod member_reading;
 mod member_records;
@@ -13,6 +17,9 @@ mod plain_archive;
 mod walk;
 
 pub use crate::archive::Archive;
+pub use crate::either_archive::EitherArchive;
+pub use crate::failed_archive::FailedArchive;
+pub use crate::looked::Looked;
 pub use crate::placed_record::PlacedRecord;
 pub use crate::plain_archive::PlainArchive;
 pub use capture_core::{

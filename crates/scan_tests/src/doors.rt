@@ -14,7 +14,7 @@ use index_core::{IndexFault, PlainArchive};
 use query_core::{Query, Report, SliceSource};
 use std::alloc::{AllocError, Global};
 use std::test::Fail;
-use tasks::Outcome;
+use tasks::{Console, Outcome, Program};
 use warc_core::{Fault, Gather, Head, Kind, Slice};
 
 fn is_of_response(head: &Head) -> bool {
@@ -173,13 +173,15 @@ fn one_name(alloc: Global, name: &str) -> Result<Vec<String>, AllocError> {
 
 /// Performs the task over the archive and the index in memory. Returns `true` if it ends as done, and has written this text.
 fn writes(rt: &HostRuntime, task: &Task, text: &[u8]) -> bool {
+    let console = Console::new(rt, Program::Warcdx);
     let shelf = Shelf {
+        alloc: rt.alloc(),
         archive: ARCHIVE,
         index: INDEX,
         input: b"key=org,a)/&fl=urlkey\n",
     };
     let mut out = Gather::new(rt.alloc());
-    let outcome = perform_on_shelf(rt, &shelf, task, &mut out);
+    let outcome = perform_on_shelf(&console, &shelf, task, &mut out);
     matches!(outcome, Outcome::Done) && out.bytes() == text
 }
 

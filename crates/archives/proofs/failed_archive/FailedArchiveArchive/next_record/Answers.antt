@@ -1,0 +1,5 @@
+use Rattle.archives.proofs.FailedLemmas.{fails_here}
+use Rattle.archives.proofs.failed_archive.FailedArchiveArchive.next_record.Goals as goal
+
+pub returns-clause-next : goal.returns-clause-next
+returns-clause-next g c = fails_here _ 0 _ _
