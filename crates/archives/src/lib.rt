@@ -20,6 +20,10 @@ pub use crate::archive::Archive;
 pub use crate::either_archive::EitherArchive;
 pub use crate::failed_archive::FailedArchive;
 pub use crate::looked::Looked;
+pub use crate::member_bounds::cause_of;
+pub use crate::member_opening::{Opening, open_begun};
+pub use crate::member_reading::Reading;
+pub use crate::member_records::{end_fault, end_record};
 pub use crate::placed_record::PlacedRecord;
 pub use crate::plain_archive::PlainArchive;
 pub use capture_core::{
