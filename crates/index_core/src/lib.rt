@@ -14,6 +14,7 @@ mod indexer;
 mod laws;
 mod lines;
 mod listing;
+mod member_fetching;
 mod names;
 mod verified;
 mod verifying;
