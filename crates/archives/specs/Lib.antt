@@ -10,3 +10,4 @@ pub mod MemberCaptures
 pub mod Looked
 pub mod Either
 pub mod Failed
+pub mod PackedState

@@ -12,6 +12,7 @@ mod member_captures;
 mod member_opening;
 mod member_reading;
 mod member_records;
+mod packed_archive;
 mod placed_record;
 mod plain_archive;
 mod walk;
@@ -20,6 +21,7 @@ pub use crate::archive::Archive;
 pub use crate::either_archive::EitherArchive;
 pub use crate::failed_archive::FailedArchive;
 pub use crate::looked::Looked;
+pub use crate::packed_archive::PackedArchive;
 pub use crate::placed_record::PlacedRecord;
 pub use crate::plain_archive::PlainArchive;
 pub use capture_core::{
