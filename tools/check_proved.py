@@ -144,6 +144,12 @@ def is_meant(call: Call, owner: Owner, name: str) -> bool:
     return call.name == name and (owner is None or call.owner in (owner, None))
 
 
+def calls_meant(found: Contracts, owner: Owner, name: str) -> list[Call]:
+    """Returns the calls that a name means: its owner's, or those without an owner if it has none."""
+    meant = [call for call in found if is_meant(call, owner, name)]
+    return [call for call in meant if call.owner == owner] or meant
+
+
 def check_claims(report: Report, found: Contracts) -> Contracts:
     """Looks up each clause that is named. Returns those that are named of each call."""
     owners = {call.owner for call in found}
@@ -152,7 +158,7 @@ def check_claims(report: Report, found: Contracts) -> Contracts:
         title = ", ".join(f"{owner}::{name}" if owner else name for owner, name in calls_of)
         here: set[str] = set()
         for owner, name in calls_of:
-            meant = [call for call in found if is_meant(call, owner, name)]
+            meant = calls_meant(found, owner, name)
             if not meant and name not in owners and name not in DERIVED:
                 report.add_difference(title, f"no call {name}")
             for call in meant:

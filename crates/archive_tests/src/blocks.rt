@@ -5,7 +5,7 @@ use crate::reports::settled;
 use capture_core::Types;
 use devices::{DeviceFault, FromFile, FromRead, Fuse, Gather, Input, Slice, SystemFile};
 use fixtures::{Refused, joined, repeated};
-use index_core::{Indexer, PlainArchive, get, list};
+use index_core::{Fetch, Indexer, PlainArchive, list};
 use std::alloc::{AllocError, Global};
 use std::fs::{self, File, Files};
 use std::io::Cursor;
@@ -199,9 +199,10 @@ fn written<R: Runtime>(
 
 #[test]
 fn the_last_record_is_fetched_from_a_file(rt: HostRuntime) -> Result<(), Fail> {
-    let mut file = written(&rt, "archive.warc", &long_archive(rt.alloc())?)?;
+    let file = written(&rt, "archive.warc", &long_archive(rt.alloc())?)?;
+    let mut archive = PlainArchive::new(rt.alloc(), file);
     let mut out = Gather::new(rt.alloc());
-    let answer = settled(get(rt.alloc(), 20_427, &mut file, &mut out))?;
+    let answer = settled(archive.get(20_427, &mut out))?;
     assert!(rt; answer == Ok(213) && out.bytes() == SHORT);
     Ok(())
 }

@@ -2,7 +2,7 @@
 use crate::prefixes::prefix_gives;
 use capture_core::CaptureFault;
 use fixtures::{RESOURCE, RESPONSE, Refused, cut, three_records};
-use index_core::{IndexFault, get};
+use index_core::{Fetch, IndexFault, PlainArchive};
 use std::alloc::Global;
 use warc_core::{Cause, Fault, Fuse, Gather, Input, Slice};
 
@@ -15,13 +15,13 @@ fn is_memory(fault: IndexFault) -> bool {
 }
 
 /// Returns what `get` writes, and its result. A failed allocation, also one of its output, is an error.
-fn fetched<I: Input>(
+fn fetched<I: Input + Drop>(
     alloc: Global,
     offset: u64,
-    input: &mut I,
+    input: I,
 ) -> Result<(Gather, Result<u64, IndexFault>), Refused> {
     let mut out = Gather::new(alloc);
-    let answer = get(alloc, offset, input, &mut out);
+    let answer = PlainArchive::new(alloc, input).get(offset, &mut out);
     match answer {
         Ok(_) => Ok((out, answer)),
         Err(fault) if is_memory(fault) || fault == IndexFault::Write => Err(Refused::Memory),
@@ -63,10 +63,10 @@ fn may_be_written(text: &[u8], offset: u64, answer: Result<u64, IndexFault>) -> 
     }
 }
 
-fn fetches_from<I: Input>(
+fn fetches_from<I: Input + Drop>(
     alloc: Global,
     offset: u64,
-    input: &mut I,
+    input: I,
     length: usize,
 ) -> Result<bool, Refused> {
     let (out, answer) = fetched(alloc, offset, input)?;
@@ -77,10 +77,10 @@ fn fetches_from<I: Input>(
 /// call.
 fn fetches(alloc: Global, offset: u64, archive: &[u8]) -> Result<bool, Refused> {
     let length = archive.len();
-    let mut by_byte = Fuse::new(Slice::new(archive), 1, 0);
+    let by_byte = Fuse::new(Slice::new(archive), 1, 0);
     Ok(
-        fetches_from(alloc, offset, &mut Slice::new(archive), length)?
-            && fetches_from(alloc, offset, &mut by_byte, length)?,
+        fetches_from(alloc, offset, Slice::new(archive), length)?
+            && fetches_from(alloc, offset, by_byte, length)?,
     )
 }
 
@@ -120,8 +120,8 @@ fn failed_read_gives(at: u64) -> Result<u64, IndexFault> {
 fn a_fetch_ends_at_a_failed_read(rt: HostRuntime) -> Result<(), Refused> {
     let archive = three_records(rt.alloc())?;
     for at in 1..450 {
-        let mut input = Fuse::new(Slice::new(&archive), 1, at);
-        let (out, answer) = fetched(rt.alloc(), 264, &mut input)?;
+        let input = Fuse::new(Slice::new(&archive), 1, at);
+        let (out, answer) = fetched(rt.alloc(), 264, input)?;
         assert!(rt; answer == failed_read_gives(at), "{at}");
         assert!(rt; may_be_written(out.bytes(), 264, answer), "{at}");
     }
@@ -131,17 +131,20 @@ fn a_fetch_ends_at_a_failed_read(rt: HostRuntime) -> Result<(), Refused> {
 /// Only the bytes of the first record are read, one a call.
 #[test]
 fn no_record_begins_within_the_first(rt: HostRuntime) -> Result<(), Refused> {
-    let archive = three_records(rt.alloc())?;
-    let mut input = Fuse::new(Slice::new(&archive), 1, 0);
-    let (_out, answer) = fetched(rt.alloc(), 1, &mut input)?;
-    assert!(rt; answer == Err(IndexFault::NoRecord) && input.calls == 264);
+    let records = three_records(rt.alloc())?;
+    let mut archive = PlainArchive::new(rt.alloc(), Fuse::new(Slice::new(&records), 1, 0));
+    let answer = archive.get(1, &mut Gather::new(rt.alloc()));
+    if matches!(answer, Err(fault) if is_memory(fault)) {
+        return Err(Refused::Memory);
+    }
+    assert!(rt; answer == Err(IndexFault::NoRecord) && archive.input().calls == 264);
     Ok(())
 }
 
 /// Returns `true` if fetching the resource, written one byte a call, ends at the call `at`, which fails.
 fn stops(alloc: Global, archive: &[u8], at: u64) -> Result<bool, Refused> {
     let mut out = Fuse::new(Gather::new(alloc), 1, at);
-    let answer = get(alloc, 264, &mut Slice::new(archive), &mut out);
+    let answer = PlainArchive::new(alloc, Slice::new(archive)).get(264, &mut out);
     if out.calls < at {
         return Err(Refused::Memory);
     }

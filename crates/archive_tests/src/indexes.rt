@@ -43,7 +43,10 @@ fn indexes(
     number: u64,
 ) -> Result<bool, Refused> {
     let mut indexer = Indexer::new(alloc, Types::usual());
-    Ok(added(alloc, &mut indexer, "b.warc", archive)? == answer && writes(alloc, &indexer, lines, number)?)
+    Ok(
+        added(alloc, &mut indexer, "b.warc", archive)? == answer
+            && writes(alloc, &indexer, lines, number)?,
+    )
 }
 
 /// Returns `true` if the name is refused with this fault, before anything is read.
@@ -79,7 +82,14 @@ fn an_indexer_takes_each_name_once(rt: HostRuntime) -> Result<(), Fail> {
     assert!(rt; added(rt.alloc(), &mut indexer, "b.warc", RESPONSE)? == Ok(1));
     assert!(rt; refuses(rt.alloc(), &mut indexer, "", IndexFault::BadName));
     assert!(rt; refuses(rt.alloc(), &mut indexer, long, IndexFault::BadName));
-    assert!(rt; refuses(rt.alloc(), &mut indexer, "b.warc", IndexFault::DuplicateName));
+    assert!(rt;
+        refuses(
+            rt.alloc(),
+            &mut indexer,
+            "b.warc",
+            IndexFault::DuplicateName
+        )
+    );
     assert!(rt; writes(alloc, &indexer, RESPONSE_LINE, 1)?);
     Ok(())
 }
@@ -97,7 +107,14 @@ fn captures_are_forgotten_and_names_are_not(rt: HostRuntime) -> Result<(), Fail>
     let alloc = rt.alloc();
     let mut indexer = Indexer::new(alloc, Types::usual());
     assert!(rt; is_forgotten(alloc, &mut indexer)?);
-    assert!(rt; refuses(rt.alloc(), &mut indexer, "a.warc", IndexFault::DuplicateName));
+    assert!(rt;
+        refuses(
+            rt.alloc(),
+            &mut indexer,
+            "a.warc",
+            IndexFault::DuplicateName
+        )
+    );
     assert!(rt; added(rt.alloc(), &mut indexer, "b.warc", RESPONSE)? == Ok(1));
     assert!(rt; writes(alloc, &indexer, RESPONSE_LINE, 1)?);
     Ok(())

@@ -1,9 +1,9 @@
 //! Records by their offsets and lengths.
 use capture_core::CaptureFault;
 use fixtures::{RESOURCE, RESPONSE, Refused, cut, three_records};
-use index_core::{IndexFault, get_at};
+use index_core::{Fetch, IndexFault, PlainArchive};
 use std::alloc::Global;
-use warc_core::{Cause, Fault, Fuse, Gather, Input, Slice};
+use warc_core::{Cause, Fault, Fuse, Gather, Slice};
 
 fn fault(offset: u64, cause: Cause) -> Result<u64, IndexFault> {
     Err(IndexFault::Capture(CaptureFault::Archive(Fault { offset, cause })))
@@ -11,15 +11,15 @@ fn fault(offset: u64, cause: Cause) -> Result<u64, IndexFault> {
 
 /// Returns `true` if this is the result for the record of this length at this offset, and this is written. A failed
 /// allocation is an error.
-fn gives<I: Input>(
+fn gives(
     alloc: Global,
     place: (u64, u64),
-    input: &mut I,
+    archive: &[u8],
     wanted: Result<u64, IndexFault>,
     text: &[u8],
 ) -> Result<bool, Refused> {
     let mut out = Gather::new(alloc);
-    let answer = get_at(alloc, place.0, place.1, input, &mut out);
+    let answer = PlainArchive::new(alloc, Slice::new(archive)).get_at(place.0, place.1, &mut out);
     if answer == fault(place.0, Cause::Memory) || answer == Err(IndexFault::Write) {
         return Err(Refused::Memory);
     }
@@ -45,7 +45,7 @@ fn a_record_is_fetched_by_its_offset_and_length(rt: HostRuntime) -> Result<(), R
     for (offset, length, answer, text) in PLACES {
         let place = (*offset, *length);
         assert!(rt;
-            gives(rt.alloc(), place, &mut Slice::new(&archive), *answer, *text)?,
+            gives(rt.alloc(), place, &archive, *answer, *text)?,
             "{offset} {length}"
         );
     }
@@ -61,46 +61,23 @@ fn damage_counts_from_the_offset_on(rt: HostRuntime) -> Result<(), Refused> {
     let version = fault(1, Cause::Version);
     let closing = fault(264, Cause::Closing);
     let start = fault(0, Cause::Version);
-    assert!(rt;
-        gives(
-            rt.alloc(),
-            (264, 184),
-            &mut Slice::new(&archive),
-            Ok(184),
-            RESOURCE
-        )?
-    );
-    assert!(rt; gives(rt.alloc(), (0, 264), &mut Slice::new(&archive), start, b"")?);
-    assert!(rt;
-        gives(
-            rt.alloc(),
-            (1, 263),
-            &mut Slice::new(&archive),
-            version,
-            b""
-        )?
-    );
-    assert!(rt;
-        gives(
-            rt.alloc(),
-            (264, 100),
-            &mut Slice::new(cut(&archive, 446)),
-            closing,
-            b""
-        )?
-    );
+    assert!(rt; gives(rt.alloc(), (264, 184), &archive, Ok(184), RESOURCE)?);
+    assert!(rt; gives(rt.alloc(), (0, 264), &archive, start, b"")?);
+    assert!(rt; gives(rt.alloc(), (1, 263), &archive, version, b"")?);
+    assert!(rt; gives(rt.alloc(), (264, 100), cut(&archive, 446), closing, b"")?);
     Ok(())
 }
 
 /// Returns `true` if the input's call `at` is the last, at one byte a call. It is the record's, or precedes it.
 fn ends(alloc: Global, archive: &[u8], at: u64) -> Result<bool, Refused> {
-    let mut input = Fuse::new(Slice::new(archive), 1, at);
+    let mut archive = PlainArchive::new(alloc, Fuse::new(Slice::new(archive), 1, at));
     let mut out = Gather::new(alloc);
-    let answer = get_at(alloc, 264, 184, &mut input, &mut out);
+    let answer = archive.get_at(264, 184, &mut out);
     if answer == fault(264, Cause::Memory) || answer == Err(IndexFault::Write) {
         return Err(Refused::Memory);
     }
-    Ok(answer == fault(264, Cause::Read) && input.calls == at && RESOURCE.starts_with(out.bytes()))
+    let calls = archive.input().calls;
+    Ok(answer == fault(264, Cause::Read) && calls == at && RESOURCE.starts_with(out.bytes()))
 }
 
 #[test]

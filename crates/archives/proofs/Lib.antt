@@ -11,3 +11,5 @@ pub mod MemberLemmas
 pub mod OpeningLemmas
 pub mod WalkingLemmas
 pub mod FailedLemmas
+pub mod RecordLemmas
+pub mod TakingLemmas

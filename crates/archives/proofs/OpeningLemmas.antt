@@ -177,7 +177,7 @@ from_front : {A : Type 0} (f : List ℕ → Result (A × List ℕ) Cause) (r : R
 from_front f r None after e = tt
 from_front f r (Some bytes) after e = e
 
-fault_at : (start : ℕ) (bytes : List ℕ) (f : Fault) → f.offset ≡ start
+pub fault_at : (start : ℕ) (bytes : List ℕ) (f : Fault) → f.offset ≡ start
     → IsPossibleFault (packed HEAD_LIMIT) start bytes (record { offset = start; cause = f.cause })
     → IsPossibleFault (packed HEAD_LIMIT) start bytes f
 fault_at start bytes f at p =

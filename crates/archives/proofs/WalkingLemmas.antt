@@ -28,6 +28,19 @@ begun_opens old mid new left left' r ahead s opens = some_known (file_ahead old)
     opens bytes (if_some (λ bytes. StartsMember old.passed bytes (Ok true) left mid) (file_ahead old) bytes s e)
     (within_known old.passed old.ahead bytes e).1
 
+-- a fault at an offset is one at an earlier one, with members without text between them
+pub fault_later : (offset start : ℕ) (bytes later : List ℕ) (f : Fault) → offset ≤ start
+    → (packed HEAD_LIMIT).next offset bytes ≡ (packed HEAD_LIMIT).next start later
+    → IsPossibleFault (packed HEAD_LIMIT) start later f → IsPossibleFault (packed HEAD_LIMIT) offset bytes f
+fault_later offset start bytes later f onward same (follows, cause) =
+    let on = packed_onward HEAD_LIMIT start f.offset follows in (
+      packed_follows HEAD_LIMIT offset f.offset (omega arith),
+      elim cause [
+        | inl memory ↦ inl memory
+        | inr other ↦ elim other [ inl input ↦ inr (inl input) | inr e ↦ inr (inr (same ∙ e)) ]
+      ],
+    )
+
 module _ (old mid new : Taken) (left : Option Left) (ahead : Option (List ℕ))
     (later : IfSome (file_ahead old) (λ bytes. IsLater old.passed bytes mid)) where
   -- what was read of the member that follows
@@ -53,19 +66,7 @@ module _ (old mid new : Taken) (left : Option Left) (ahead : Option (List ℕ))
       subst (λ (known : Option (List ℕ)). Comes (packed HEAD_LIMIT) old.passed (Ok None) (Some bytes) known)
       (sym q.1) (p.2 ∙ ends)
 
-  fault_later : (bytes later : List ℕ) (f : Fault) → old.passed ≤ mid.passed
-      → (packed HEAD_LIMIT).next old.passed bytes ≡ (packed HEAD_LIMIT).next mid.passed later
-      → IsPossibleFault (packed HEAD_LIMIT) mid.passed later f → IsPossibleFault (packed HEAD_LIMIT) old.passed bytes f
-  fault_later bytes later f onward same (follows, cause) =
-      let on = packed_onward HEAD_LIMIT mid.passed f.offset follows in (
-        packed_follows HEAD_LIMIT old.passed f.offset (omega arith),
-        elim cause [
-          | inl memory ↦ inl memory
-          | inr other ↦ elim other [ inl input ↦ inr (inl input) | inr e ↦ inr (inr (same ∙ e)) ]
-        ],
-      )
-
   pub later_fault : (f : Fault) → old.passed ≤ mid.passed → Opened (Err f) → Opens (Err f)
   later_fault f onward o = some_known (file_ahead old) λ bytes e.
       let p = at_later bytes e in
-      fault_later bytes p.0 f onward p.2 (at_opened (Err f) p.0 o p.1)
+      fault_later old.passed mid.passed bytes p.0 f onward p.2 (at_opened (Err f) p.0 o p.1)

@@ -20,7 +20,7 @@ use Rattle.warc_core.specs.ReaderView.{IsUnread, ReaderState, ReaderView}
 use Rattle.archives.specs.declared.member_opening.Opening.{Opening}
 use Rattle.archives.specs.declared.member_opening.Opening.TheVariants.{Empty, End, Record}
 use Rattle.archives.specs.declared.member_opening.OpenRecord.{OpenRecord}
-use Rattle.archives.specs.Form.{Comes, IsPossibleFault}
+use Rattle.archives.specs.Form.{Comes, ComesRecord, IsPossibleFault, Placed, Stored}
 use Rattle.archives.specs.Packed.{member_cause, packed}
 
 -- what is left of a member: text and the bytes behind it, or its fault
@@ -154,3 +154,17 @@ pub record StandsOpen (offset : ℕ) (r : OpenRecord) (passed : ℕ) (new : Read
   pub follows : offset ≤ r.start
   pub further : r.start < passed
   pub opens : OpensHead new r.head
+
+-- ---- a record was taken from a member
+
+-- The record of the member that begins these bytes was read to its end, and this holds of what was taken from it; or why
+-- it was not.
+abbrev pub TakesMember : {X : Type 0} → (X → Placed) → (X → Stored → Type 0) → ℕ → List ℕ → Result X Fault
+    → Option (List ℕ) → Type 0
+TakesMember placed P start bytes (Ok x) after =
+    ComesRecord (packed HEAD_LIMIT) start (placed x) (P x) (Some bytes) after
+TakesMember placed P start bytes (Err f) after = IsPossibleFault (packed HEAD_LIMIT) start bytes f
+
+-- the record of this head, whose member ends where so many bytes were taken
+abbrev pub taken_record : OpenRecord → ℕ → Placed
+taken_record r passed = record { head = r.head; place = record { offset = r.start; length = passed - r.start } }

@@ -10,6 +10,7 @@ mod looked;
 mod member_bounds;
 mod member_opening;
 mod member_reading;
+mod member_records;
 mod placed_record;
 mod plain_archive;
 mod walk;

@@ -13,8 +13,8 @@ use std::alloc::Global;
 pub struct PlainArchive<I> {
     alloc: Global,
     /// Or the fault for memory that couldn't be allocated.
-    reader: Result<Reader, Fault>,
-    input: I,
+    pub reader: Result<Reader, Fault>,
+    pub input: I,
     ghost memory: { (f : Fault) → reader ≡ Err f → f ≡ no_memory },
 }
 

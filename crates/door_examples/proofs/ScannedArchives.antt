@@ -10,12 +10,14 @@ use Rattle.std.specs.Str.Lossy.{utf8_lossy, utf8_valid_len}
 use Rattle.form_urlencoded.specs.Form.{byte_serialize}
 use Rattle.json.specs.Print.{escape_byte}
 use Rattle.percent_encoding.specs.Percent.{percent_decode, percent_encode_byte}
+use Rattle.archives.specs.Packing.{Plain}
 use Rattle.cdxj_core.specs.declared.limit.TheConstants.{LINE_LIMIT}
 use Rattle.cdxj_core.specs.Entries.{HasLine}
 use Rattle.cdxj_core.specs.Members.{entry_member, member_place}
 use Rattle.cdxj_places.specs.Places.{place_in}
 use Rattle.index_core.specs.Laws.{AcceptedIsWhole}
-use Rattle.door_examples.specs.Archives.{a_entry, b_entry}
+use Rattle.index_core.specs.Limits.{HEAD_LIMIT}
+use Rattle.door_examples.specs.Archives.{a_archive, b_archive, a_entry, b_entry}
 use Rattle.door_examples.specs.Scans.{OneIsScanned, TwoAreScannable, TwoAreScanned}
 use Rattle.door_examples.specs.Texts.{orgs}
 use Rattle.door_examples.proofs.ReadArchives.{pages_are_accepted}
@@ -105,7 +107,10 @@ two_are_scannable whole = record {
     query = two_are_scanned.query;
     asked = two_are_scanned.asked;
     named = two_are_scanned.indexed.named;
-    whole = (whole _ _ _ _ _ _ pages_are_accepted.second, (whole _ _ _ _ _ _ pages_are_accepted.first, tt));
+    whole = (
+      record { archive = b_archive; told = refl; whole = whole _ _ HEAD_LIMIT Plain _ _ _ pages_are_accepted.second },
+      (record { archive = a_archive; told = refl; whole = whole _ _ HEAD_LIMIT Plain _ _ _ pages_are_accepted.first }, tt),
+    );
   };
   rises = leb-true _ _ refl;
 }

@@ -5,13 +5,14 @@ use Rattle.tasks.specs.declared.outcome.Outcome.{Outcome}
 use Rattle.tasks.specs.declared.outcome.Outcome.TheVariants as outcomes
 use Rattle.tasks.specs.Performing.{Openings, Performs}
 use Rattle.door_examples.specs.Archives.{a_archive}
+use Rattle.door_examples.specs.Scans.{plain_of}
 use Rattle.door_examples.specs.Shelf.{shelf, query_line}
 use Rattle.door_examples.specs.Texts.{a_line}
 
 -- files with these bytes
 abbrev files : List ℕ → List ℕ → List ℕ → Openings
 files archive index input = record {
-  archive_of = λ name. Some archive;
+  TellsArchive = λ name told. told ≡ plain_of archive;
   index_of = λ name. Some index;
   ArchiveFailed = λ name. ⊥;
   IndexFailed = λ name. ⊥;

@@ -3,6 +3,7 @@ use native.Mathlib.Omega.{arith}
 use lib.Utf8.{encode}
 use Rattle.std.proofs.Common.{◌≡◌, ◌∙◌, ℕ, List, [], ◌∷◌, ◌++◌, Some, None, Result, Ok, Err, MatchResult, IfOk, codes, refl, sym, ap, subst, inl, inr}
 use Rattle.std.specs.Fmt.{digits}
+use Rattle.std.specs.List.{AllZip}
 use Rattle.std.specs.Str.{is_utf8, chars}
 use Rattle.std.specs.Str.Lossy.{utf8_lossy, utf8_valid_len}
 use Rattle.json.specs.Print.{escape_byte}
@@ -28,6 +29,7 @@ use Rattle.query_core.specs.Replies.{replies, reply_of}
 use Rattle.scan_core.specs.declared.fault.ScanFault.{ScanFault}
 use Rattle.scan_core.specs.Laws.{ScanIsOne}
 use Rattle.scan_core.specs.Scanning.{Scanned}
+use Rattle.archives.specs.State.{ToldArchive}
 use Rattle.capture_core.specs.Types.{includes, usual_types}
 use Rattle.command_line.specs.Commands.{ToCheck, ToMerge, ToPages, ToQuery, ToScan, ToServe}
 use Rattle.tasks.specs.declared.outcome.Outcome.TheVariants as outcomes
@@ -36,7 +38,8 @@ use Rattle.tasks.specs.Performing.{Performs}
 use Rattle.tasks.specs.Queries.{AnswersPages, AnswersQuery, answered_outcome}
 use Rattle.tasks.specs.Scanning.{scan_outcome}
 use Rattle.door_examples.specs.Archives.{a_archive, a_entry}
-use Rattle.door_examples.specs.Shelf.{shelf, archive_name, index_name, query_line}
+use Rattle.door_examples.specs.Scans.{plain_of}
+use Rattle.door_examples.specs.Shelf.{shelf, archive_name, index_name, query_line, told_archive}
 use Rattle.door_examples.specs.Texts.{a_line, orgs, orgs_text}
 use Rattle.door_examples.proofs.ReadTexts.{line_is_index, query_is_read}
 use Rattle.door_examples.proofs.ScannedArchives.{one_is_scanned}
@@ -124,10 +127,10 @@ module _ (before after : List ℕ) where
   replied (Err f) is wrote = grind arith
 
   scanned : ScanIsOne → (answer : Result ℕ ScanFault) → outcomes.Done ≡ scan_outcome answer
-      → IfOk answer (Scanned (includes usual_types) (archive_name ∷ []) (Some a_archive ∷ []) (1 ∷ []) orgs_text
+      → IfOk answer (Scanned (includes usual_types) (archive_name ∷ []) (plain_of a_archive ∷ []) (1 ∷ []) orgs_text
       (Some before) (Some after)) → after ≡ before ++ codes "org,a)/ 0\n"
   scanned one (Ok n) is scan = same_bytes _ _ (one (includes usual_types) (archive_name ∷ []) (a_archive ∷ [])
-      (Some a_archive ∷ []) (1 ∷ []) orgs_text before (Some after) (Some _) n 1 (refl, tt) scan (one_is_scanned before)).0
+      (plain_of a_archive ∷ []) (1 ∷ []) orgs_text before (Some after) (Some _) n 1 (refl, tt) scan (one_is_scanned before)).0
   scanned one (Err f) is scan = grind arith
 
   counted : HasOneList → (answer : Result ℕ AnswerFault) → IsChecked a_line answer
@@ -193,6 +196,16 @@ module _ (before after : List ℕ) (unchanged : Type 0) where
   pub scans : ScanIsOne → Performs shelf (Some before) (Some after) unchanged outcomes.Done
       (ToScan usual_types None (1 ∷ []) orgs_text (archive_name ∷ [])) → after ≡ before ++ codes "org,a)/ 0\n"
   unfolding Performs
-  scans one (inl (q, meaning, inl s)) = scanned before after one s.answer s.outcome_is s.scanned
+  scans one (inl (q, meaning, inl (told, are, s))) = scanned before after one s.answer s.outcome_is (only told are s.scanned)
+    where
+      only : (told : List ToldArchive)
+          → AllZip (λ name archive. archive ≡ told_archive) (archive_name ∷ []) told
+          → IfOk s.answer (Scanned (includes usual_types) (archive_name ∷ []) told (1 ∷ []) orgs_text (Some before)
+          (Some after))
+          → IfOk s.answer (Scanned (includes usual_types) (archive_name ∷ []) (plain_of a_archive ∷ []) (1 ∷ []) orgs_text
+          (Some before) (Some after))
+      only (one ∷ []) (is, _) wrote = subst (λ a. IfOk s.answer (Scanned (includes usual_types) (archive_name ∷ []) (a ∷ [])
+          (1 ∷ []) orgs_text (Some before) (Some after))) is wrote
+      only other are wrote = grind arith
   scans one (inl (q, meaning, inr unopened)) = grind arith
   scans one (inr refused) = grind arith

@@ -6,7 +6,10 @@ use Rattle.std.specs.Io.KnownBytes.{Appends}
 use Rattle.json.specs.Print.{escape_byte}
 use Rattle.warc_head.specs.Fields.{value_of}
 use Rattle.warc_core.specs.Laws.{OneReading}
+use Rattle.archives.specs.Packing.{Plain}
+use Rattle.archives.specs.State.{ToldArchive}
 use Rattle.capture_core.specs.Types.{includes, usual_types}
+use Rattle.index_core.specs.FetchingIn.{FetchesIn}
 use Rattle.index_core.specs.Indexing.{Held, index_text}
 use Rattle.index_core.specs.Form.{ConsistsOf, Stored, plain, plain_record}
 use Rattle.index_core.specs.Laws.{OneIndexed, OneStands, PlainIsWhole, records_of}
@@ -20,13 +23,14 @@ use Rattle.tasks.specs.declared.outcome.Outcome.{Outcome}
 use Rattle.tasks.specs.declared.outcome.Outcome.TheVariants as outcomes
 use Rattle.tasks.specs.declared.reports.ArchiveReport.{ArchiveReport}
 use Rattle.tasks.specs.declared.reports.ArchiveReport.TheVariants as reports
-use Rattle.tasks.specs.Fetching.{FetchesRecord}
-use Rattle.tasks.specs.Indexing.{AddsOne, WritesIndex, nothing_of}
+use Rattle.tasks.specs.Fetching.{WritesRecord}
+use Rattle.tasks.specs.Indexing.{AddsArchive, AddsOne, WritesIndex, nothing_of}
 use Rattle.tasks.specs.Outcome.{ends_command, outcome_of}
 use Rattle.tasks.specs.Performing.{Performs}
-use Rattle.tasks.specs.Reports.{ReportsOn, ReportsOnOne, WritesReport}
+use Rattle.tasks.specs.Opening.{WithTold}
+use Rattle.tasks.specs.Reports.{ReportsOn, ReportsOnOne, WritesBelow, WritesReport, heading_among}
 use Rattle.door_examples.specs.Archives.{a_archive, a_entry, a_view}
-use Rattle.door_examples.specs.Shelf.{shelf, archive_name}
+use Rattle.door_examples.specs.Shelf.{shelf, archive_name, told_archive}
 use Rattle.door_examples.specs.Texts.{a_line}
 use Rattle.door_examples.proofs.ReadArchives.{pages_are_accepted, a_stands}
 use Rattle.door_examples.proofs.ShelfOutcomes.{one_done, added_done}
@@ -57,9 +61,13 @@ records_are one whole records are =
     w.2 ∙ ap (records_of a_archive)
     ((one HEAD_LIMIT a_archive).one_list w.0 (a_view ∷ []) w.1 pages_are_accepted.records)
 
+-- what was done with the archive, as it is told
+over_told : (Done : ToldArchive → Type 0) → WithTold (λ told. told ≡ told_archive) Done → Done told_archive
+over_told Done (told, is, done) = subst Done is done
+
 -- ---- reports
 
-listed : HasOneReading → PlainIsWhole → (start after : List ℕ) → WritesReport reports.Listing (Some a_archive) outcomes.Done (Some start)
+listed : HasOneReading → PlainIsWhole → (start after : List ℕ) → WritesReport reports.Listing told_archive outcomes.Done (Some start)
     (Some after) → after ≡ start ++ codes "0 201 resource\n"
 listed one whole start after (Ok n, is, lists) =
     let r = lists.report in
@@ -67,7 +75,7 @@ listed one whole start after (Ok n, is, lists) =
     ∙ ap (λ t. start ++ t) list_text
 listed one whole start after (Err f, is, lists) = grind arith
 
-verified : HasOneReading → PlainIsWhole → (start after : List ℕ) → WritesReport reports.Verdicts (Some a_archive) outcomes.Done
+verified : HasOneReading → PlainIsWhole → (start after : List ℕ) → WritesReport reports.Verdicts told_archive outcomes.Done
     (Some start) (Some after) → after ≡ start ++ codes "0 absent\n"
 verified one whole start after (Ok v, is, verifies) =
     let r = verifies.report in
@@ -76,26 +84,30 @@ verified one whole start after (Ok v, is, verifies) =
 verified one whole start after (Err f, is, verifies) = grind arith
 
 module _ (report : ArchiveReport) (text before after : List ℕ)
-    (whole : (start : List ℕ) → WritesReport report (Some a_archive) outcomes.Done (Some start) (Some after)
+    (whole : (start : List ℕ) → WritesReport report told_archive outcomes.Done (Some start) (Some after)
     → after ≡ start ++ text) where
   below : (headed : Option (List ℕ)) → Appends (Some before) headed []
-      → WritesReport report (Some a_archive) outcomes.Done headed (Some after) → after ≡ before ++ text
+      → WritesReport report told_archive outcomes.Done headed (Some after) → after ≡ before ++ text
   below None top written = grind arith
   below (Some start) top written = whole start written ∙ ap (λ s. s ++ text) (top ∙ append-nil before)
 
-  on_one : ReportsOnOne shelf.archive_of shelf.ArchiveFailed report 1 (Some before) archive_name outcomes.Done (Some after)
+  on_one : ReportsOnOne shelf.TellsArchive shelf.ArchiveFailed report 1 (Some before) archive_name outcomes.Done (Some after)
       → after ≡ before ++ text
-  on_one (inl (inl w)) = below w.0 w.1 w.2
-  on_one (inl (inr failed)) = grind arith
+  on_one (inl written) = beneath (over_told _ written)
+    where
+      beneath : WritesBelow (heading_among 1 archive_name) report told_archive outcomes.Done (Some before) (Some after)
+          → after ≡ before ++ text
+      beneath (inl w) = below w.0 w.1 w.2
+      beneath (inr failed) = grind arith
   on_one (inr unopened) = grind arith
 
-  reported : ReportsOn shelf.archive_of shelf.ArchiveFailed report (archive_name ∷ []) (Some before) (Some after)
+  reported : ReportsOn shelf.TellsArchive shelf.ArchiveFailed report (archive_name ∷ []) (Some before) (Some after)
       outcomes.Done → after ≡ before ++ text
   reported (ended, next, step, rest) =
       let d = one_done ended next (Some after) rest in
-      on_one (subst (λ s. ReportsOnOne shelf.archive_of shelf.ArchiveFailed report 1 (Some before) archive_name
+      on_one (subst (λ s. ReportsOnOne shelf.TellsArchive shelf.ArchiveFailed report 1 (Some before) archive_name
       outcomes.Done s) (sym d.1)
-      (subst (λ o. ReportsOnOne shelf.archive_of shelf.ArchiveFailed report 1 (Some before) archive_name o next) d.0 step))
+      (subst (λ o. ReportsOnOne shelf.TellsArchive shelf.ArchiveFailed report 1 (Some before) archive_name o next) d.0 step))
 
 -- ---- the record at an offset
 
@@ -103,7 +115,7 @@ same_text : (this that : List ℕ) → ◌≡◌ {A = Result (List ℕ) IndexFau
 same_text this that e = grind arith
 
 fetched : OneStands → (before after : List ℕ) (answer : Result ℕ IndexFault) → outcomes.Done ≡ outcome_of answer
-    → FetchesRecord None 0 (Some a_archive) answer (Some before) (Some after) → after ≡ before ++ a_archive
+    → FetchesIn Plain None 0 (Some a_archive) answer (Some before) (Some after) → after ≡ before ++ a_archive
 fetched one before after (Ok n) is (text, count, wrote, stands) = wrote
     ∙ ap (λ t. before ++ t) (same_text text a_archive (one HEAD_LIMIT 0 a_archive (Ok text) (Ok a_archive) stands a_stands))
 fetched one before after (Err f) is fetches = grind arith
@@ -124,20 +136,25 @@ module _ (before after : List ℕ) (unchanged : Type 0) where
   pub gets : OneStands → Performs shelf (Some before) (Some after) unchanged outcomes.Done (ToGet None 0 archive_name)
       → after ≡ before ++ a_archive
   unfolding Performs
-  gets one (inl w) = fetched one before after w.answer w.outcome_is w.fetches
+  gets one (inl written) =
+      let w = over_told (λ told. WritesRecord None 0 told (Some before) (Some after) unchanged outcomes.Done) written in
+      fetched one before after w.answer w.outcome_is w.fetches
   gets one (inr unopened) = grind arith
 
 -- ---- the index
 
 added : OneIndexed → (held : Held)
-    → AddsOne shelf.archive_of shelf.ArchiveFailed None (nothing_of usual_types) archive_name outcomes.Done held
+    → AddsOne shelf.TellsArchive shelf.ArchiveFailed None (nothing_of usual_types) archive_name outcomes.Done held
     → held.captures ≡ a_entry ∷ []
-added one held (inl a) = go a.answer a.outcome_is a.adds
+added one held (inl told) = go a.answer a.outcome_is a.adds
   where
+    a : AddsArchive archive_name told_archive (nothing_of usual_types) held outcomes.Done
+    a = over_told (λ told. AddsArchive archive_name told (nothing_of usual_types) held outcomes.Done) told
+
     go : (answer : Result ℕ IndexFault) → outcomes.Done ≡ outcome_of answer
         → Rattle.index_core.specs.Adding.Adds (includes usual_types) Rattle.capture_core.specs.CaptureAnswer.usual_limits
         (plain HEAD_LIMIT) archive_name (Some a_archive) (nothing_of usual_types) held answer → held.captures ≡ a_entry ∷ []
-    go (Ok n) is adds = grind (arith, one _ _ _ _ _ _ _ adds.2.2 pages_are_accepted.first)
+    go (Ok n) is adds = grind (arith, one _ _ HEAD_LIMIT Plain _ _ _ _ adds.2.2 pages_are_accepted.first)
     go (Err f) is adds = grind arith
 added one held (inr unopened) = grind arith
 
@@ -155,6 +172,6 @@ indexes one before after unchanged (held, reached, (ended, next, step, rest), wr
     let w = added_done reached unchanged held (Some before) (Some after) write in
     let d = one_done ended next held (subst (λ r. MatchBool (ends_command ended) ((r ≡ ended) × (held ≡ next))
     ((r ≡ Rattle.tasks.specs.Outcome.worse_of outcomes.Done ended) × (held ≡ next))) w.0 rest) in
-    indexed before after held reached (added one held (subst (λ s. AddsOne shelf.archive_of shelf.ArchiveFailed
+    indexed before after held reached (added one held (subst (λ s. AddsOne shelf.TellsArchive shelf.ArchiveFailed
     None (nothing_of usual_types) archive_name outcomes.Done s) (sym d.1)
-    (subst (λ o. AddsOne shelf.archive_of shelf.ArchiveFailed None (nothing_of usual_types) archive_name o next) d.0 step))) w.1
+    (subst (λ o. AddsOne shelf.TellsArchive shelf.ArchiveFailed None (nothing_of usual_types) archive_name o next) d.0 step))) w.1

@@ -1,10 +1,12 @@
 -- Files in memory, and what the tasks write of them.
 use Rattle.std.specs.Prelude.{◌≡◌, ℕ, List, [], ◌∷◌, ◌++◌, codes, None, Some}
+use Rattle.archives.specs.State.{ToldArchive}
 use Rattle.capture_core.specs.Types.{usual_types}
 use Rattle.command_line.specs.Commands.{Meaning, ToList, ToVerify, ToIndex, ToMerge, ToCheck, ToQuery, ToPages, ToServe}
 use Rattle.command_line.specs.Commands.{ToGet, ToScan}
 use Rattle.tasks.specs.Performing.{Openings}
 use Rattle.door_examples.specs.Archives.{a_archive}
+use Rattle.door_examples.specs.Scans.{plain_of}
 use Rattle.door_examples.specs.Texts.{a_line, orgs_text}
 
 -- the names of the archive and of the index
@@ -18,10 +20,14 @@ index_name = codes "a.cdxj"
 abbrev pub query_line : List ℕ
 query_line = codes "key=org,a)/&fl=urlkey\n"
 
+-- the archive, as it is told
+abbrev pub told_archive : ToldArchive
+told_archive = plain_of a_archive
+
 -- One archive has all names of archives, and one index all names of indexes. Nothing fails to be opened.
 abbrev pub shelf : Openings
 shelf = record {
-  archive_of = λ name. Some a_archive;
+  TellsArchive = λ name told. told ≡ told_archive;
   index_of = λ name. Some a_line;
   ArchiveFailed = λ name. ⊥;
   IndexFailed = λ name. ⊥;

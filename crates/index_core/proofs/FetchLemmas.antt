@@ -5,13 +5,16 @@ use Rattle.index_core.proofs.Words.{length, take, refl, subst, arith, Appends, C
 use Rattle.index_core.proofs.Words.{AppendsPrefix, HeadView, record_length, Reads, Walks}
 use Rattle.index_core.proofs.Words.{next-spelled, Walks-more, none_at_end, record-stopped}
 use Rattle.index_core.proofs.Words.{record-unclosed, record-whole, Archive, IndexFault, IsInRecord}
-use Rattle.index_core.proofs.Words.{Fetches}
+use Rattle.index_core.proofs.Words.{Fetches, drop, ◌^◌}
 use Rattle.warc_core.specs.Next.{next_at}
 use Rattle.warc_core.specs.Walk.{record_at}
 use Rattle.warc_core.proofs.ReadingLemmas.{front_of}
 use Rattle.warc_core.proofs.WalkLemmas.{record-end}
 use Rattle.warc_core.proofs.DigestLemmas.{take_past}
 use Rattle.index_core.specs.Fetching.{IsBehindRecords, StopsAt, most_written, most_written_at}
+use Rattle.warc_core.specs.declared.fault.Cause.TheVariants.{Memory}
+use Rattle.archives.specs.Plain.{no_memory}
+use Rattle.index_core.specs.FetchingAt.{FetchesAt}
 use Rattle.index_core.specs.Copying.{CopiesRecord, CopiesNext, WalkedTo}
 use Rattle.devices.proofs.WritingLemmas.{wrote_nothing}
 use Rattle.index_core.proofs.ArchiveWalks.{from_offset}
@@ -108,6 +111,22 @@ module _ (limit : ℕ) where
   fetched o (Err faults.NoRecord) (Some archive) (Some z) w u s c = inr
       (s.0, record { end = o; walks = subst (Walks limit 0 archive s.0 o) c s.1 }, omega arith)
   fetched o r left known w u s c = grind (arith, from_offset)
+
+  -- ---- without memory for a reader
+
+  pub unread_stops : (o : ℕ) (f : Fault) (left w : Option (List ℕ)) → f ≡ no_memory
+      → Fetches limit o left (Err (faults.Capture (Archive f))) w w
+  unread_stops o f None w e = rw e (omega arith, tt)
+  unread_stops o f (Some archive) w e = rw e (
+    omega arith,
+    (inr (inl refl, ([], archive, (refl, refl))), wrote_nothing w (most_written_at limit o (drop o archive))),
+  )
+
+  pub unread_stops_at : (o len : ℕ) (f : Fault) (left w : Option (List ℕ)) → f.offset ≡ o → f.cause ≡ Memory
+      → o ≤ 2 ^ 63 - 1 → FetchesAt limit o len left (Err (faults.Capture (Archive f))) w w
+  unread_stops_at o len f None w at e l = inr (l, (at, tt))
+  unread_stops_at o len f (Some archive) w at e l =
+      inr (l, (at, (inl e, wrote_nothing w (most_written_at limit o (drop o archive)))))
 
 pub ruleset next_rules = (err_from_is_err_and, next_none, next_stopped)
 

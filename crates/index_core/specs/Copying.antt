@@ -1,6 +1,6 @@
 -- The walk to an offset of an archive, and the copying of the record there.
 use Rattle.std.specs.Prelude.{◌≡◌, ℕ, ◌+◌, ◌≤◌, ⊤, ◌⊎◌, List, [], ◌++◌, length, take, Option, None, Some, Result, Ok}
-use Rattle.std.specs.Prelude.{Err, IfSome}
+use Rattle.std.specs.Prelude.{Err, IfSome, Bool, true, false}
 use Rattle.std.specs.Io.KnownBytes.{Appends, Consumes, prepend_known}
 use Rattle.warc_core.specs.declared.fault.Fault.{Fault}
 use Rattle.warc_core.specs.declared.phase.Phase.TheVariants.{Between, Open}
@@ -73,10 +73,10 @@ WalkedTo limit offset None now = ⊤
 WalkedTo limit offset (Some archive) None = ⊥
 WalkedTo limit offset (Some archive) (Some rest) = (heads : List HeadView) × Walks limit 0 archive heads offset rest
 
--- a reader came to the offset, or it is no end of a record
-abbrev pub Reaches : ℕ → ℕ → Result (Option ReaderView) Fault → Option (List ℕ) → Option (List ℕ) → Type 0
-Reaches limit offset (Ok (Some reader)) left after = StandsAt reader offset Between
-    × WalkedTo limit offset left (prepend_known reader.held after)
-Reaches limit offset (Ok None) left after = IfSome left (λ archive. IsInRecord limit archive offset
+-- a reader of an archive that had these bytes came to the offset, where it has these left, or it is no end of a record
+abbrev pub Reaches : ℕ → ℕ → Result Bool Fault → ReaderView → Option (List ℕ) → Option (List ℕ) → Type 0
+Reaches limit offset (Ok true) reader left now = StandsAt reader offset Between × WalkedTo limit offset left now
+Reaches limit offset (Ok false) reader left now = IfSome left (λ archive. IsInRecord limit archive offset
     ⊎ IsBehindRecords limit archive offset)
-Reaches limit offset (Err f) left after = (f.offset ≤ offset) × IfSome left (λ archive. StopsAt limit archive offset f)
+Reaches limit offset (Err f) reader left now = (f.offset ≤ offset)
+    × IfSome left (λ archive. StopsAt limit archive offset f)

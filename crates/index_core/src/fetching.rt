@@ -1,4 +1,4 @@
-//! The fetching of a record by its offset.
+//! The fetching of a record of a plain archive by its offset.
 ghost use Rattle.std.specs.Prelude.{◌≡◌, ℕ, ◌-◌, ◌^◌, ◌≤◌, Err, IfErr};
 ghost use Rattle.std.specs.Io.KnownBytes.{prepend_known};
 ghost use Rattle.warc_core.specs.Answers.{causes_of, CountsRead};
@@ -7,74 +7,101 @@ ghost use Rattle.index_core.specs.Copying.{CopiesNext, Reaches};
 ghost use Rattle.index_core.specs.Fetching.{Fetches, IsFetchFault, IsMetBefore};
 ghost use Rattle.index_core.specs.FetchingAt.{CopiesNextOf, CopiesRecordOf, FetchesAt};
 ghost use Rattle.index_core.specs.FetchingAt.{PassesRecord};
-ghost use Rattle.warc_core.specs.ReaderView.{HasLeft, IfOpen, IsUnread};
+ghost use Rattle.warc_core.specs.ReaderView.{HasLeft, IfOpen, IsUnread, StandsAt};
 
 use crate::copying::copy_record;
 use crate::fault::IndexFault;
+use crate::fetch::Fetch;
 use crate::walk::next_record;
-use std::alloc::Global;
+use archives::PlainArchive;
 use warc_core::{Fault, HEAD_LIMIT, Head, Input, Output, Phase, Reader};
 
 /// The greatest offset of a record.
 const GREATEST_OFFSET: u64 = (1 << 63) - 1;
 
-/// Writes the record that begins at `offset`, in bytes from the archive's start, as it is stored,
-/// and returns its length in bytes. The input is not called for anything after that record.
-///
-/// Errors are `NoRecord` if a record begins before the offset and ends after it, or if the archive
-/// ends at the offset or before it; the archive's fault at the offset or before it, `Memory` and
-/// `Read` included; and `Write` at the output's first failure. After `NoRecord`, or a fault before
-/// the offset, nothing was written. After any other error, the first bytes from the offset on may
-/// have been written, but none past the end of the record that begins there.
+impl<I: Input> Fetch for PlainArchive<I> {
+    /// The input is not called for anything after the record. `NoRecord` is returned if a record
+    /// begins before the offset and ends after it, or if the archive ends at the offset or before
+    /// it. After `NoRecord`, or a fault before the offset, nothing was written. After any other
+    /// error, the first bytes from the offset on may have been written, but none past the end of
+    /// the record that begins there.
+    fn get<O: Output>(&mut self, offset: u64, out: &mut O) -> Result<u64, IndexFault> {
+        match &mut self.reader {
+            Ok(reader) => get(reader, &mut self.input, offset, out),
+            Err(fault) => Err(IndexFault::from(*fault)),
+        }
+    }
+
+    /// `NoRecord` is returned if a record of another length begins at the offset, if the archive
+    /// ends at the offset or before it, or if the offset is 2^63 or more. Then nothing was written.
+    /// After any other error, the first bytes from the offset on may have been written, but none
+    /// past the end of the record that begins there.
+    fn get_at<O: Output>(
+        &mut self,
+        offset: u64,
+        length: u64,
+        out: &mut O,
+    ) -> Result<u64, IndexFault> {
+        if offset > GREATEST_OFFSET {
+            return Err(IndexFault::NoRecord);
+        }
+        match &mut self.reader {
+            Ok(reader) => get_at(reader, &mut self.input, offset, length, out),
+            Err(Fault { cause, .. }) => Err(IndexFault::from(Fault {
+                offset,
+                cause: *cause,
+            })),
+        }
+    }
+}
+
+/// Writes the record that begins at `offset` and returns its length in bytes, by a reader at the
+/// archive's start.
 #[tactic(auto, using(crate::proofs::FetchLemmas::fetch_rules))]
-pub fn get<I: Input, O: Output>(
-    alloc: Global,
-    offset: u64,
+fn get<I: Input, O: Output>(
+    reader: &mut Reader,
     input: &mut I,
+    offset: u64,
     out: &mut O,
 ) -> Result<u64, IndexFault>
-    ensures fetches { Fetches HEAD_LIMIT offset (I.remaining input.old) result (O.written out.old)
+    requires { StandsAt reader.old 0 Phase.Between }
+    ensures fetches { Fetches HEAD_LIMIT offset
+        (prepend_known reader.old.held (I.remaining input.old)) result (O.written out.old)
         (O.written out.new) }
     ensures refusals { IfErr result IsFetchFault }
     ensures unwritten { IfErr result (λ fault. IsMetBefore offset fault → out.new ≡ out.old) }
     ensures reads { CountsIndex result (I.failures input.old) (I.failures input.new) }
     ensures writes { CountsIndexWrite result (O.failures out.old) (O.failures out.new) }
 {
-    match reader_at(alloc, input, offset)? {
-        Some(mut reader) => copy_next(&mut reader, input, out),
-        None => Err(IndexFault::NoRecord),
+    if reach(reader, input, offset)? {
+        copy_next(reader, input, out)
+    } else {
+        Err(IndexFault::NoRecord)
     }
 }
 
-/// Writes the record of `length` bytes that begins at `offset`, in bytes from the archive's start,
-/// as it is stored, and returns its length. What precedes the offset is passed over, and not read
-/// as records.
-///
-/// Errors are `NoRecord` if a record of another length begins at the offset, if the archive ends at
-/// the offset or before it, or if the offset is 2^63 or more; the fault of the record at the
-/// offset, `Memory` and `Read` included; and `Write` at the output's first failure. After
-/// `NoRecord` nothing was written. After any other error, the first bytes from the offset on may
-/// have been written, but none past the end of the record that begins there.
+/// Writes the record of `length` bytes that begins at `offset`, and returns its length, by a reader
+/// at the archive's start. What precedes the offset is passed over.
 #[tactic(auto, using(crate::proofs::FetchLemmas::fetch_rules))]
-pub fn get_at<I: Input, O: Output>(
-    alloc: Global,
+fn get_at<I: Input, O: Output>(
+    reader: &mut Reader,
+    input: &mut I,
     offset: u64,
     length: u64,
-    input: &mut I,
     out: &mut O,
 ) -> Result<u64, IndexFault>
-    ensures fetches { FetchesAt HEAD_LIMIT offset length (I.remaining input.old) result
-        (O.written out.old) (O.written out.new) }
+    requires stands { StandsAt reader.old 0 Phase.Between }
+    requires within { offset ≤ 2 ^ 63 - 1 }
+    ensures fetches { FetchesAt HEAD_LIMIT offset length
+        (prepend_known reader.old.held (I.remaining input.old)) result (O.written out.old)
+        (O.written out.new) }
     ensures refusals { IfErr result IsFetchFault }
     ensures unwritten { IfErr result (λ fault. IsMetBefore offset fault → out.new ≡ out.old) }
     ensures reads { CountsIndex result (I.failures input.old) (I.failures input.new) }
     ensures writes { CountsIndexWrite result (O.failures out.old) (O.failures out.new) }
 {
-    if offset > GREATEST_OFFSET {
-        return Err(IndexFault::NoRecord);
-    }
-    let mut reader = Reader::at(alloc, input, offset)?;
-    copy_next_of(&mut reader, input, length, out)
+    reader.pass_to(input, offset)?;
+    copy_next_of(reader, input, length, out)
 }
 
 /// Writes the next record if it has this length in bytes, and returns the length.
@@ -139,25 +166,23 @@ fn pass_record<I: Input>(reader: &mut Reader, input: &mut I) -> Result<u64, Inde
     }
 }
 
-/// Returns a reader that has reached the offset, if whole records fill the archive up to it.
-fn reader_at<I: Input>(alloc: Global, input: &mut I, offset: u64) -> Result<Option<Reader>, Fault>
-    ensures reaches { Reaches HEAD_LIMIT offset result (I.remaining input.old)
-        (I.remaining input.new) }
+/// Reads whole records from the archive's start up to the offset. Returns whether they fill the
+/// archive up to it.
+fn reach<I: Input>(reader: &mut Reader, input: &mut I, offset: u64) -> Result<bool, Fault>
+    requires { StandsAt reader.old 0 Phase.Between }
+    ensures reaches { Reaches HEAD_LIMIT offset result reader.new
+        (prepend_known reader.old.held (I.remaining input.old))
+        (prepend_known reader.new.held (I.remaining input.new)) }
     ensures reads { CountsRead (causes_of result) (I.failures input.old) (I.failures input.new) }
 {
-    let mut reader = Reader::new(alloc)?;
     let mut end = 0;
     while end < offset {
-        match next_record(&mut reader, input)? {
+        match next_record(reader, input)? {
             Some(head) => end += head.record_length(),
-            None => return Ok(None),
+            None => return Ok(false),
         }
     }
-    if end == offset {
-        Ok(Some(reader))
-    } else {
-        Ok(None)
-    }
+    Ok(end == offset)
 }
 
 /// Writes the next record, and returns its length in bytes.

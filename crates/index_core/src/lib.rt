@@ -22,7 +22,6 @@ mod writing;
 
 pub use crate::fault::IndexFault;
 pub use crate::fetch::Fetch;
-pub use crate::fetching::{get, get_at};
 pub use crate::indexer::Indexer;
 pub use crate::laws::{
     accepted_archive_is_not_refused, accepted_archive_is_whole, accepted_archive_stays_accepted,

@@ -3,8 +3,8 @@
 //! The definitions begin in `specs/Scanning.antt`: which pages a scan writes.
 #![tactic(auto)]
 
-mod archives;
 mod fault;
+mod indexing;
 mod laws;
 mod named;
 mod scanning;

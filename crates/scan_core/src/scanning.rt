@@ -16,8 +16,8 @@ ghost use Rattle.scan_core.specs.Failures.{CountsWriting, CountsInputs, CountsOu
 ghost use Rattle.scan_core.specs.Scanning.{Scanned, ScannedInPart, WritesKnownPages, IsScanFault};
 ghost use Rattle.scan_core.specs.Scanning.{IsBeforeWriting, LeavesUnread};
 
-use crate::archives::index_archives;
 use crate::fault::ScanFault;
+use crate::indexing::index_archives;
 use crate::named::Named;
 use capture_core::Types;
 use devices::{Gather, Output};

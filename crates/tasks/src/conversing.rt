@@ -30,7 +30,11 @@ pub fn serve_all<R: Runtime + AllocGlobal, F: Opener, I: Input, O: Output>(
     ensures writes { CountsWrites result (O.failures out.old) (O.failures out.new) }
 {
     match open_indexes(console.alloc(), files, names) {
-        Ok(mut indexes) => answered_outcome(console, names, serve(console.alloc(), &mut indexes, input, out)),
+        Ok(mut indexes) => answered_outcome(
+            console,
+            names,
+            serve(console.alloc(), &mut indexes, input, out),
+        ),
         Err(outcome) => outcome,
     }
 }

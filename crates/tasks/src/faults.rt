@@ -14,7 +14,11 @@ use scan_core::ScanFault;
 use std::rt::Runtime;
 
 /// Returns the outcome of a call on the archive of this name. A fault is reported on standard error.
-pub fn said_outcome<R: Runtime>(console: &Console<R>, name: &str, answer: Result<u64, IndexFault>) -> Outcome
+pub fn said_outcome<R: Runtime>(
+    console: &Console<R>,
+    name: &str,
+    answer: Result<u64, IndexFault>,
+) -> Outcome
     ensures { result ≡ outcome_of answer }
 {
     if let Err(fault) = answer {

@@ -29,7 +29,11 @@ pub fn merge_all<R: Runtime + AllocGlobal, F: Opener, O: Output>(
     ensures writes { CountsWrites result (O.failures out.old) (O.failures out.new) }
 {
     match open_indexes(console.alloc(), files, names) {
-        Ok(mut indexes) => answered_outcome(console, names, merge(console.alloc(), &mut indexes, out)),
+        Ok(mut indexes) => answered_outcome(
+            console,
+            names,
+            merge(console.alloc(), &mut indexes, out),
+        ),
         Err(outcome) => outcome,
     }
 }

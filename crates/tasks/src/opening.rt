@@ -181,7 +181,10 @@ pub fn open_indexes<F: Opener>(
     Ok(indexes)
 }
 
-fn open_file<R: Runtime + AllocGlobal>(console: &Console<R>, name: &str) -> Result<<R as Files>::File, Outcome>
+fn open_file<R: Runtime + AllocGlobal>(
+    console: &Console<R>,
+    name: &str,
+) -> Result<<R as Files>::File, Outcome>
     ensures { IfErr result (IsUnopened ⊤) }
 {
     match File::open(console.rt, name) {

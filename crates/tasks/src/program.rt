@@ -163,11 +163,19 @@ fn run_task<R: Runtime + AllocGlobal, A: ArchiveOver<SystemInput<R>>>(
 ) -> Outcome
     ensures { result ≡ Outcome.Done → IsDone A.may_be (view task.now) }
 {
-    let Ok(mut writer) = BufWriter::with_capacity(console.alloc(), OUTPUT_ROOM, io::writer(console.rt)) else {
+    let Ok(mut writer) = BufWriter::with_capacity(
+        console.alloc(),
+        OUTPUT_ROOM,
+        io::writer(console.rt),
+    ) else {
         return say_outcome(console, MEMORY);
     };
     let outcome = match task {
-        Task::Serve(_names) => perform_on_system::<R, A, _>(console, task, &mut Prompt::new(&mut writer)),
+        Task::Serve(_names) => perform_on_system::<R, A, _>(
+            console,
+            task,
+            &mut Prompt::new(&mut writer),
+        ),
         _ => perform_on_system::<R, A, _>(console, task, &mut FromWrite::new(&mut writer)),
     };
     let flushed = writer.flush();

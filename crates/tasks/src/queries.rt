@@ -109,7 +109,10 @@ fn open_and_write_pages<R: Runtime + AllocGlobal, F: Opener, O: Output>(
 }
 
 /// Reads a query text. Why it is refused is reported on standard error.
-pub fn read_query<R: Runtime + AllocGlobal>(console: &Console<R>, text: &str) -> Result<Query, Outcome>
+pub fn read_query<R: Runtime + AllocGlobal>(
+    console: &Console<R>,
+    text: &str,
+) -> Result<Query, Outcome>
     ensures { ReadsQuery text.now result }
 {
     match Query::read(console.alloc(), text) {

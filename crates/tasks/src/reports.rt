@@ -48,15 +48,7 @@ pub fn report_on<R: Runtime + AllocGlobal, F: Opener, O: Output>(
                 (F.archive_failed files.entry.now) report among
                 (O.written out.old) name.now result (O.written out.new) }
             ensures writes { CountsWrites result (O.failures out.old) (O.failures out.new) }
-        {
-            report_on_opened(
-                name,
-                among,
-                report,
-                files.open_archive(name),
-                out,
-            )
-        },
+        { report_on_opened(name, among, report, files.open_archive(name), out) },
     )
 }
 

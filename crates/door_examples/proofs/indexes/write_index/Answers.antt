@@ -3,9 +3,8 @@ use Rattle.std.specs.Io.KnownBytes.{Appends}
 use Rattle.index_core.specs.Accepted.{IsAccepted}
 use Rattle.index_core.specs.CaptureAnswer.{usual_limits}
 use Rattle.index_core.specs.Entries.{EntryValue}
-use Rattle.index_core.specs.Form.{plain}
 use Rattle.index_core.specs.Indexing.{Held, index_text}
-use Rattle.index_core.specs.Limits.{HEAD_LIMIT}
+use Rattle.index_core.specs.Packing.{form_of}
 use Rattle.index_core.specs.Types.{includes, usual_types}
 use Rattle.index_core.specs.Writing.{WritesText}
 use Rattle.door_examples.proofs.indexes.write_index.Goals as goal
@@ -26,11 +25,11 @@ returns g c = record {
       let adds = c.in_ok-add.ensures.adds in
       let types = ap (λ (h : Held). h.types) begun ∙ c.usual.ensures in
       let held = ap (λ (h : Held). h.captures) adds.1 ∙ ap (λ (h : Held). h.captures ++ adds.0) begun in
-      let accepted = subst (λ types. IfSome (g.I.Input.remaining c.args.archive.now)
-      (λ archive. IsAccepted (includes types) usual_limits (plain HEAD_LIMIT) name archive adds.0)) types adds.2.2 in
-      written (IsAccepted (includes usual_types) usual_limits (plain HEAD_LIMIT) name bytes) c.write.result
+      let accepted = subst (λ types. IfSome ((g.A.Archive.state c.args.archive.now).ahead)
+      (λ archive. IsAccepted (includes types) usual_limits (form_of (g.A.Archive.state c.args.archive.now).packing) name archive adds.0)) types adds.2.2 in
+      written (IsAccepted (includes usual_types) usual_limits (form_of (g.A.Archive.state c.args.archive.now).packing) name bytes) c.write.result
       (g.O.Output.written c.args.out.now) (g.O.Output.written c.write.new.out) adds.0 c.add.new.self.captures held
       (subst (λ left. IfSome left
-      (λ archive. IsAccepted (includes usual_types) usual_limits (plain HEAD_LIMIT) name archive adds.0)) known accepted)
+      (λ archive. IsAccepted (includes usual_types) usual_limits (form_of (g.A.Archive.state c.args.archive.now).packing) name archive adds.0)) known accepted)
       c.write.ensures.lines;
 }

@@ -2,7 +2,7 @@ use Rattle.std.proofs.Common.{string_bytes}
 use Rattle.devices.specs.Gathered.{gathered}
 use Rattle.archives.specs.State.{told_of}
 use Rattle.scan_core.proofs.ArchiveLemmas.{Indexing}
-use Rattle.scan_core.proofs.archives.index_archives.Given as goal
+use Rattle.scan_core.proofs.indexing.index_archives.Given as goal
 
 abbrev pub invariant-loop-i : goal.invariant-loop-i
 invariant-loop-i g l =

@@ -3,7 +3,7 @@ use Rattle.std.proofs.lemmas.List.{length-map, take_all}
 use Rattle.index_core.specs.declared.fault.IndexFault.TheVariants.{Memory}
 use Rattle.merge_core.proofs.Many.{map_set_same}
 use Rattle.scan_core.proofs.ArchiveLemmas.{counts_at, first_fault, one_more, unread_at}
-use Rattle.scan_core.proofs.archives.index_archives.Goals as goal
+use Rattle.scan_core.proofs.indexing.index_archives.Goals as goal
 
 pub loop-i-init : goal.loop-i-init
 loop-i-init g c = record {

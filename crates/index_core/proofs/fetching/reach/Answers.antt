@@ -1,10 +1,10 @@
 use Rattle.index_core.proofs.Words.{◌∙◌, HEAD_LIMIT, arith, err_from_is_err_and}
 use Rattle.index_core.proofs.FetchLemmas.{WalkedTo-more, ends_before, stops_before}
-use Rattle.index_core.proofs.fetching.reader_at.Goals as goal
+use Rattle.index_core.proofs.fetching.reach.Goals as goal
 
 pub returns-in_err-head-clause-reaches : goal.returns-in_err-head-clause-reaches
 returns-in_err-head-clause-reaches g c =
-    let r = c.from_residual-in_err-head in
+    let r = c.from_residual in
     let p = err_from_is_err_and r.result r.ensures.1 in
     let i = c.loop-end.invariant in
     let n = c.in_err-head.ensures in

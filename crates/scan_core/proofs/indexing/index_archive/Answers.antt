@@ -3,7 +3,7 @@ use Rattle.std.proofs.Common.{Result}
 use Rattle.index_core.specs.{Indexing.IsName, Indexing.is_among, declared.fault.IndexFault.IndexFault}
 use Rattle.index_core.specs.declared.fault.IndexFault.TheVariants.{BadName, DuplicateName}
 use Rattle.scan_core.specs.Archives.{IsNewName}
-use Rattle.scan_core.proofs.archives.index_archive.Goals as goal
+use Rattle.scan_core.proofs.indexing.index_archive.Goals as goal
 
 -- a name that is neither bad nor used
 is_new : {names : List (List ℕ)} {name : List ℕ} {n : ℕ}
