@@ -9,3 +9,4 @@ pub mod Plain
 pub mod Looked
 pub mod Either
 pub mod Failed
+pub mod Opened
