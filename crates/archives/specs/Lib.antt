@@ -11,3 +11,4 @@ pub mod Looked
 pub mod Either
 pub mod Failed
 pub mod PackedState
+pub mod Opened

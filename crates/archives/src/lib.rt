@@ -3,6 +3,7 @@
 //! The definitions begin in `specs/Form.antt`: what comes next at an offset of an archive.
 #![tactic(auto)]
 
+mod any_archive;
 mod archive;
 mod either_archive;
 mod failed_archive;
@@ -17,6 +18,7 @@ mod placed_record;
 mod plain_archive;
 mod walk;
 
+pub use crate::any_archive::{AnyArchive, open};
 pub use crate::archive::Archive;
 pub use crate::either_archive::EitherArchive;
 pub use crate::failed_archive::FailedArchive;
