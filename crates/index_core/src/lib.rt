@@ -8,6 +8,7 @@ mod captures;
 mod copying;
 mod fault;
 mod fetch;
+mod fetch_either;
 mod fetching;
 mod index_lines;
 mod indexer;
