@@ -13,3 +13,4 @@ pub mod WalkingLemmas
 pub mod FailedLemmas
 pub mod RecordLemmas
 pub mod TakingLemmas
+pub mod MemberCaptureLemmas

@@ -1,5 +1,5 @@
 -- The records in the members of a compressed archive.
-use Rattle.archives.proofs.Words.{◌≡◌, ℕ, ◌+◌, ◌-◌, ◌<◌, List, [], ◌++◌, None, Some, Option, Result, Ok, Err}
+use Rattle.archives.proofs.Words.{◌≡◌, ℕ, ◌+◌, ◌-◌, List, [], None, Some, Option, Ok, Err}
 use Rattle.archives.proofs.Words.{IfSome, Cause, Fault}
 use Rattle.archives.proofs.Words.{HEAD_LIMIT, HeadView, Reads, after_record, arith, ap, length, prepend_known}
 use Rattle.archives.proofs.Words.{record-unclosed, record-whole}
@@ -7,14 +7,14 @@ use Rattle.archives.proofs.Words.{refl, subst, sym, ◌∙◌, ◌∷◌}
 use Rattle.std.proofs.Common.{true, nat_lt, option_map}
 use Rattle.gzip_members.specs.Left.{behind_of, text_of}
 use Rattle.gzip_members.specs.Members.{member_in}
-use Rattle.gzip_members.specs.Reading.{Moves, Taken, total_of}
+use Rattle.gzip_members.specs.Reading.{Moves, Taken}
 use Rattle.warc_core.specs.declared.fault.Cause.TheVariants as causes
 use Rattle.warc_core.specs.Answers.{CountsRead}
 use Rattle.warc_core.specs.HeadView.{block_at}
 use Rattle.warc_core.specs.Walk.{record_at}
 use Rattle.capture_core.specs.declared.place.Place.{Place}
-use Rattle.archives.specs.Form.{Comes, ComesRecord, IsPossibleFault, Placed, Stored, placed_of}
-use Rattle.archives.specs.Packed.{Held, held_by, held_in, held_with, member_holds, packed, packed_record}
+use Rattle.archives.specs.Form.{Comes, ComesRecord, IsPossibleFault, Stored}
+use Rattle.archives.specs.Packed.{held_by, held_in, held_with, member_holds, packed, packed_record}
 use Rattle.archives.specs.MemberReading.{CountsClosing, Left, closed_by, file_ahead, ClosesTo, HoldsHead, ReadsOn}
 use Rattle.archives.proofs.OpeningLemmas.{behind_in, behind_there, fails_there, fault_at, member_closed}
 use Rattle.archives.proofs.PackedLemmas.{holds_less, packed_reads}

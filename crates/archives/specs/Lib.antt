@@ -6,6 +6,9 @@ pub mod State
 pub mod Walking
 pub mod Captures
 pub mod Plain
+pub mod MemberCaptures
 pub mod Looked
 pub mod Either
 pub mod Failed
+pub mod PackedState
+pub mod Opened

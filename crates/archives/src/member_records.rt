@@ -21,7 +21,7 @@ use gzip_members::Members;
 
 /// Reads a member to its end, in whose text a record was read that begins it. Returns the record's
 /// place.
-fn end_record<I: Input>(
+pub fn end_record<I: Input>(
     members: &mut Members<I>,
     reader: &Reader,
     start: u64,
@@ -53,7 +53,12 @@ fn end_record<I: Input>(
 
 /// Reads a member to its end, in whose text no record was read, for this cause. Returns the fault:
 /// the member's own comes first.
-fn end_fault<I: Input>(members: &mut Members<I>, reader: &Reader, start: u64, cause: Cause) -> Fault
+pub fn end_fault<I: Input>(
+    members: &mut Members<I>,
+    reader: &Reader,
+    start: u64,
+    cause: Cause,
+) -> Fault
     ensures closes { IfSome (left_of members.old) (λ left. ClosesTo {A = Unit {0}}
         (closed_by (Err cause) (nat_lt 0 (length reader.now.held)) left) (Err result.cause)
         (taken members.new.source).ahead) }
