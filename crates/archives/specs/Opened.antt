@@ -7,5 +7,6 @@ use Rattle.archives.specs.State.{ArchiveState, IsUnread}
 -- and they are its bytes; nothing is said of the bytes of a compressed archive of 2^63 or more.
 pub record OpensOver (before : Option (List ℕ)) (s : ArchiveState) : Type 0 where
   pub unread : IsUnread s
+  pub failures : s.failures ≡ 0
   pub packing : IfSome before (λ bytes. s.packing ≡ packing_of bytes)
   pub bytes : IfSome before (λ bytes. (s.packing ≡ Packed → length bytes < 2 ^ 63) → s.ahead ≡ Some bytes)
