@@ -9,6 +9,7 @@ mod copying;
 mod fault;
 mod fetch;
 mod fetch_either;
+mod fetch_failed;
 mod fetching;
 mod index_lines;
 mod indexer;
