@@ -130,7 +130,7 @@ holds_none : (bytes rest : List ℕ) (ahead : Option (List ℕ))
 unfolding member_holds
 holds_none bytes rest ahead e k = none_in (member_in bytes) rest ahead e k
 
-fault_in : (x : Result (Held × List ℕ) Cause) (c : Cause) → behind_in x ≡ Err c → x ≡ Err c
+pub fault_in : (x : Result (Held × List ℕ) Cause) (c : Cause) → behind_in x ≡ Err c → x ≡ Err c
 fault_in (Ok (held, behind)) c e = absurd cc
 fault_in (Err d) c e = grind arith
 

@@ -36,7 +36,7 @@ some_in : (m : Left) (h : HeadView) (rest : List ℕ) (ahead : Option (List ℕ)
 some_in (Ok (text, behind)) h rest ahead e k = (text, refl, some_text h text behind rest ahead e k)
 some_in (Err d) h rest ahead e k = absurd cc
 
-holds_some : (bytes : List ℕ) (h : HeadView) (rest : List ℕ) (ahead : Option (List ℕ))
+pub holds_some : (bytes : List ℕ) (h : HeadView) (rest : List ℕ) (ahead : Option (List ℕ))
     → Reads (record_at HEAD_LIMIT 0) (Ok (Some h)) (text_of (Some (member_in bytes))) ahead
     → behind_in (member_holds HEAD_LIMIT bytes) ≡ Ok rest
     → (text : List ℕ) × (text_of (Some (member_in bytes)) ≡ Some text)

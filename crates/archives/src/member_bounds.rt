@@ -11,7 +11,7 @@ use capture_core::{Cause, Fault, Input};
 use gzip_members::{MemberFault, Members};
 
 /// Returns why a member can't be read, as a cause.
-fn cause_of(fault: MemberFault) -> Cause
+pub fn cause_of(fault: MemberFault) -> Cause
     ensures { result ≡ member_cause fault }
 {
     match fault {

@@ -63,7 +63,11 @@ fn end_empty<I: Input>(
 
 /// Reads the head at the front of a member that was begun, or the member to its end if it has no
 /// text.
-fn open_begun<I: Input>(members: Members<I>, reader: &mut Reader, start: u64) -> Reading<I, Opening>
+pub fn open_begun<I: Input>(
+    members: Members<I>,
+    reader: &mut Reader,
+    start: u64,
+) -> Reading<I, Opening>
     ensures opens { (bytes : List ℕ)
         → StartsMember start bytes (Ok true) (left_of members) (taken members.source)
         → start + length bytes ≤ 2 ^ 63 - 1

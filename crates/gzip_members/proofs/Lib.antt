@@ -12,4 +12,5 @@ pub mod BeginLemmas
 pub mod RestLemmas
 pub mod OverLemmas
 pub mod MovesLemmas
+mod SkipLemmas
 pub mod TextLemmas

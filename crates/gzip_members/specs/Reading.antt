@@ -66,3 +66,9 @@ CountsMember (Err TooLong) old new = new ≡ old
 abbrev pub GivesRest : ℕ → List ℕ → Result (Unit {0}) DeflateFault → Result (List ℕ) DeflateFault → Type 0
 GivesRest n bytes (Ok u) read = read ≡ Ok (drop n bytes)
 GivesRest n bytes (Err e) read = read ≡ Err e
+
+-- the first n known bytes were passed over, or all if there are fewer
+abbrev pub PassesOver : ℕ → Option (List ℕ) → Option (List ℕ) → Type 0
+PassesOver n None after = ⊤
+PassesOver n (Some bytes) None = ⊥
+PassesOver n (Some bytes) (Some rest) = rest ≡ drop n bytes

@@ -1,9 +1,9 @@
 //! An input that is read byte by byte, with the checksum of what was read.
 ghost use Rattle.std.specs.Prelude.{◌≡◌, ℕ, ◌+◌, ◌-◌, ◌^◌, ◌<◌, ◌≤◌, List, [], ◌⊎◌, true, false};
-ghost use Rattle.std.specs.Prelude.{length, drop, Ok, IfOk, IfErr, OnOk, OnErr};
+ghost use Rattle.std.specs.Prelude.{length, drop, min, Ok, IfOk, IfErr, OnOk, OnErr, MatchResult};
 ghost use Rattle.devices.specs.Device.{CountsFailure};
 ghost use Rattle.std.specs.Bool.{OnTrue, OnFalse};
-ghost use Rattle.std.specs.Io.KnownBytes.{Keeps, IsAtEnd, prepend_known};
+ghost use Rattle.std.specs.Io.KnownBytes.{ConsumesCount, Keeps, IsAtEnd, prepend_known};
 
 use crate::fault::MemberFault;
 use crate::read_ahead::{MOST_HELD, ReadAhead};
@@ -27,7 +27,7 @@ pub struct CheckedInput<I: Input> {
 
 impl<I: Input> CheckedInput<I> {
     ghost use Rattle.gzip_members.specs.Header.{byte_in};
-    ghost use Rattle.gzip_members.specs.Reading.{Reads, CountsMember, Moves, taken};
+    ghost use Rattle.gzip_members.specs.Reading.{Reads, CountsMember, Moves, PassesOver, taken};
 
     /// Reads once from the input if nothing is held. If nothing is held after that, the input is at
     /// its end.
@@ -110,5 +110,74 @@ impl<I: Input> CheckedInput<I> {
         self.passed += count as u64;
         self.ahead.consume(count);
         true
+    }
+
+    /// Takes the first `count` bytes that are held, or all if there are fewer, and returns their
+    /// number.
+    fn skip_held(&mut self, count: u64) -> u64
+        requires { self.old.passed + count ≤ 2 ^ 63 - 1 }
+        ensures count { result ≡ min count (length self.old.ahead) }
+        ensures held { self.new.ahead ≡ drop result self.old.ahead }
+        ensures passed { self.new.passed ≡ self.old.passed + result }
+        ensures input { self.new.input ≡ self.old.input }
+    {
+        let skipped = count.min(self.ahead.as_slice().len() as u64);
+        self.passed += skipped;
+        self.ahead.consume(skipped as usize);
+        skipped
+    }
+
+    /// Passes over up to `count` of the next bytes, and returns their number, which is 0 only for a
+    /// `count` of 0 and at the end of the input. Passes over what is held; or else as much as the
+    /// input skips; or else what one read returns.
+    fn skip(&mut self, count: u64) -> Result<u64, DeviceFault>
+        requires { self.old.passed + count ≤ 2 ^ 63 - 1 }
+        ensures bound { IfOk result (λ n. n ≤ count) }
+        ensures bytes { ConsumesCount (prepend_known self.old.ahead (I.remaining self.old.input))
+            (prepend_known self.new.ahead (I.remaining self.new.input)) result }
+        ensures end { IfOk result (λ n. n ≡ 0 → 0 < count
+            → IsAtEnd (prepend_known self.new.ahead (I.remaining self.new.input))) }
+        ensures passed { MatchResult result (λ n. self.new.passed ≡ self.old.passed + n)
+            (λ _. self.new.passed ≡ self.old.passed) }
+        ensures moves { Moves (taken self.old) (taken self.new) }
+        ensures failures { CountsFailure result (I.failures self.old.input)
+            (I.failures self.new.input) }
+    {
+        if !self.ahead.as_slice().is_empty() {
+            return Ok(self.skip_held(count));
+        }
+        match self.input.skip(count)? {
+            0 => {
+                self.ahead.read_on(&mut self.input)?;
+                Ok(self.skip_held(count))
+            }
+            skipped => {
+                self.passed += skipped;
+                Ok(skipped)
+            }
+        }
+    }
+
+    /// Passes over the next `count` bytes, or all if there are fewer. Returns whether there were so
+    /// many.
+    pub fn pass_over(&mut self, count: u64) -> Result<bool, DeviceFault>
+        requires { self.old.passed + count ≤ 2 ^ 63 - 1 }
+        ensures bytes { OnOk result (PassesOver count (taken self.old).ahead
+            (taken self.new).ahead) }
+        ensures passed { result ≡ Ok true → self.new.passed ≡ self.old.passed + count }
+        ensures end { result ≡ Ok false → IsAtEnd (taken self.new).ahead }
+        ensures moves { Moves (taken self.old) (taken self.new) }
+        ensures failures { CountsFailure result (I.failures self.old.input)
+            (I.failures self.new.input) }
+    {
+        let mut left = count;
+        'bytes: while left > 0 {
+            let skipped = self.skip(left)?;
+            if skipped == 0 {
+                return Ok(false);
+            }
+            left -= skipped;
+        }
+        Ok(true)
     }
 }

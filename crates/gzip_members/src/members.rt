@@ -1,5 +1,5 @@
 //! The members of a file, one after another.
-ghost use Rattle.std.specs.Io.KnownBytes.{prepend_known};
+ghost use Rattle.std.specs.Io.KnownBytes.{prepend_known, IsAtEnd};
 ghost use Rattle.std.specs.Prelude.{◌≡◌, ◌+◌, ◌-◌, ◌^◌, ◌≤◌, ◌<◌, [], true, false, length, take};
 ghost use Rattle.std.specs.Prelude.{Ok, IfOk, OnOk, OnErr, Bool, Err, Some, Result, List, ℕ};
 ghost use Rattle.deflate_bits.specs.declared.fault.DeflateFault.{DeflateFault};
@@ -27,7 +27,7 @@ pub struct Members<I: Input> {
 }
 
 impl<I: Input> Members<I> {
-    ghost use Rattle.gzip_members.specs.Reading.{CountsMember, Moves, taken};
+    ghost use Rattle.gzip_members.specs.Reading.{CountsMember, Moves, PassesOver, taken};
     ghost use Rattle.gzip_members.specs.Windows.{pending};
     ghost use Rattle.gzip_members.specs.Bodies.{is_over};
     ghost use Rattle.gzip_members.specs.Left.{BeginsMember, EndsMember, GivesText, RefusesMember};
@@ -57,6 +57,26 @@ impl<I: Input> Members<I> {
             body: Body::new(alloc)?,
             is_too_far: false,
         })
+    }
+
+    /// Passes over the next `count` bytes of the file, or all if there are fewer, and returns
+    /// whether there were so many. A member that was begun is not read further. The only error is
+    /// the input's failure.
+    pub fn pass_over(&mut self, count: u64) -> Result<bool, DeviceFault>
+        requires { self.old.source.passed + count ≤ 2 ^ 63 - 1 }
+        ensures bytes { OnOk result (PassesOver count (taken self.old.source).ahead
+            (taken self.new.source).ahead) }
+        ensures passed { result ≡ Ok true
+            → self.new.source.passed ≡ self.old.source.passed + count }
+        ensures end { result ≡ Ok false → IsAtEnd (taken self.new.source).ahead }
+        ensures moves { Moves (taken self.old.source) (taken self.new.source) }
+        ensures failures { CountsFailure result (I.failures self.old.source.input)
+            (I.failures self.new.source.input) }
+    {
+        self.body.restart();
+        self.body.refuse(DeflateFault::Cut);
+        self.is_too_far = false;
+        self.source.pass_over(count)
     }
 
     /// Begins the member that begins with the next bytes, and returns whether one does; or else the

@@ -20,3 +20,4 @@ mod FormLemmas
 mod OneTextLemmas
 mod OneRecordLemmas
 mod OneAddLemmas
+mod FailedLemmas

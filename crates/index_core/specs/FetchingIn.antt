@@ -1,8 +1,9 @@
 -- The record that a call fetches, by how the archive keeps its records.
 use Rattle.std.specs.Prelude.{◌≡◌, ℕ, ◌-◌, ⊤, ◌⊎◌, true, false, List, length, drop, Option, None, Some}
-use Rattle.std.specs.Prelude.{Result, Ok, Err, IfSome}
+use Rattle.std.specs.Prelude.{Result, Ok, Err, IfSome, option_map, Bool, []}
 use Rattle.std.specs.Io.KnownBytes.{Appends}
 use Rattle.devices.specs.Device.{AppendsPrefix}
+use Rattle.gzip_members.specs.declared.fault.MemberFault.{MemberFault}
 use Rattle.gzip_members.specs.declared.fault.MemberFault.TheVariants.{NoMember}
 use Rattle.gzip_members.specs.Members.{member_in}
 use Rattle.gzip_members.specs.Starts.{begins_member}
@@ -49,21 +50,35 @@ module _ (limit : ℕ) (bytes : List ℕ) where
       → AppendsPrefix before after text
 
 -- What a call has written that fetches the record of the member at an offset, of a length or of any, and what it says of
--- the archive where that is known. What precedes the offset isn't judged.
+-- the bytes from there on where they are known. What precedes the offset isn't judged.
 abbrev pub FetchesMember : ℕ → Option ℕ → ℕ → Option (List ℕ) → Result ℕ IndexFault → Option (List ℕ)
     → Option (List ℕ) → Type 0
-FetchesMember limit asked offset left (Ok n) before after =
+FetchesMember limit asked offset known (Ok n) before after =
     (text : List ℕ) × (n ≡ length text) × Appends before after text
-    × IfSome left (λ archive. (behind : List ℕ) × HoldsRecord limit (drop offset archive) text behind
-    × IsOfLength asked (length (drop offset archive) - length behind))
-FetchesMember limit asked offset left (Err faults.NoRecord) before after = IfSome left
-    (λ archive. HoldsNone limit (drop offset archive) asked × WritesOfMember limit (drop offset archive) before after)
-FetchesMember limit asked offset left (Err (faults.Capture (Archive f))) before after =
-    (f.offset ≡ offset) × IfSome left (λ archive. IsMemberFault limit (drop offset archive) f.cause
-    × WritesOfMember limit (drop offset archive) before after)
-FetchesMember limit asked offset left (Err faults.Write) before after = IfSome left
-    (λ archive. WritesOfMember limit (drop offset archive) before after)
-FetchesMember limit asked offset left (Err other) before after = ⊥
+    × IfSome known (λ bytes. (behind : List ℕ) × HoldsRecord limit bytes text behind
+    × IsOfLength asked (length bytes - length behind))
+FetchesMember limit asked offset known (Err faults.NoRecord) before after = IfSome known
+    (λ bytes. HoldsNone limit bytes asked × WritesOfMember limit bytes before after)
+FetchesMember limit asked offset known (Err (faults.Capture (Archive f))) before after =
+    (f.offset ≡ offset) × IfSome known (λ bytes. IsMemberFault limit bytes f.cause
+    × WritesOfMember limit bytes before after)
+FetchesMember limit asked offset known (Err faults.Write) before after = IfSome known
+    (λ bytes. WritesOfMember limit bytes before after)
+FetchesMember limit asked offset known (Err other) before after = ⊥
+
+-- why no record is fetched where no member was begun
+abbrev pub not_begun : ℕ → MemberFault → IndexFault
+not_begun offset NoMember = faults.NoRecord
+not_begun offset fault = faults.Capture (Archive (record { offset = offset; cause = member_cause fault }))
+
+-- what precedes an offset was passed over, or the file ends by it
+abbrev pub PassesTo : ℕ → Bool → Option (List ℕ) → List ℕ → Type 0
+PassesTo offset true ahead archive = ahead ≡ Some (drop offset archive)
+PassesTo offset false ahead archive = drop offset archive ≡ []
+
+-- the input failed at its first bytes, so that it isn't known how the archive keeps its records
+abbrev pub not_looked : IndexFault
+not_looked = faults.Capture (Archive (record { offset = 0; cause = causes.Read }))
 
 -- the same of an archive of either form: of a plain one the record at the offset, or the one of a length, whatever
 -- precedes it
@@ -71,7 +86,9 @@ abbrev pub FetchesIn : Packing → Option ℕ → ℕ → Option (List ℕ) → 
     → Option (List ℕ) → Type 0
 FetchesIn Plain None offset left answer before after = Fetches HEAD_LIMIT offset left answer before after
 FetchesIn Plain (Some len) offset left answer before after = FetchesAt HEAD_LIMIT offset len left answer before after
-FetchesIn Packed asked offset left answer before after = FetchesMember HEAD_LIMIT asked offset left answer before after
+FetchesIn Packed asked offset left answer before after =
+    FetchesMember HEAD_LIMIT asked offset (option_map (drop offset) left) answer before after
+    ⊎ ((answer ≡ Err not_looked) × (after ≡ before))
 
 -- nothing was written before this fault: in a plain archive it was met before the offset, or no record begins there. Of
 -- a member of another length a part may have been written.
