@@ -1,7 +1,7 @@
 -- The captures of the records in the members of a compressed archive.
-use Rattle.archives.proofs.Words.{◌≡◌, ℕ, ◌<◌, Bool, List, None, Some, Option, Result, Ok, Err, IfSome}
-use Rattle.archives.proofs.Words.{HEAD_LIMIT, HeadView, Kind, Limits}
-use Rattle.archives.proofs.Words.{Archive, CaptureFault, Cause, EntryValue, Reads, ap, arith, inl, length}
+use Rattle.archives.proofs.Words.{◌≡◌, ℕ, Bool, List, None, Some, Option, Result, Ok, Err, IfSome}
+use Rattle.archives.proofs.Words.{HEAD_LIMIT, HeadView, Kind}
+use Rattle.archives.proofs.Words.{Archive, CaptureFault, Cause, EntryValue, Reads, ap, arith, inl}
 use Rattle.archives.proofs.Words.{refl, subst, sym, take, ◌∙◌}
 use Rattle.std.proofs.Common.{IsSome, option_map}
 use Rattle.warc_core.specs.declared.fault.Cause.TheVariants as causes

@@ -1,14 +1,18 @@
 -- What comes next in a compressed archive, by the member in which it stands.
 use Rattle.archives.proofs.Words.{◌≡◌, ℕ, ◌-◌, ◌^◌, ◌<◌, ◌≤◌, List, None, Some, Option, Result, Ok, Err}
-use Rattle.archives.proofs.Words.{IfSome, Fault, HEAD_LIMIT, arith, refl, sym, ◌∙◌}
-use Rattle.archives.proofs.Words.{ap, inl, inr}
+use Rattle.archives.proofs.Words.{IfSome, Fault, HEAD_LIMIT, arith, refl, ◌∙◌}
+use Rattle.archives.proofs.Words.{inl}
 use Rattle.gzip_members.specs.Reading.{Taken}
 use Rattle.archives.specs.declared.member_opening.OpenRecord.{OpenRecord}
-use Rattle.archives.specs.Form.{Comes, ComesRecord, IsPossibleFault, Placed, StandsFrom, Stored}
+use Rattle.archives.specs.Form.{Comes, ComesRecord, IsPossibleFault, Placed, Stored}
 use Rattle.archives.specs.Packed.{packed}
 use Rattle.archives.specs.MemberReading.{HoldsHead, Left, OpensRecord, TakesMember, taken_record}
+use Rattle.archives.specs.Plain.{no_memory}
 use Rattle.archives.specs.Walking.{ComesAt, FailsAt}
-use Rattle.archives.proofs.PackedLemmas.{packed_follows, packed_onward, packed_stand}
+use Rattle.archives.specs.Captures.{MayBeRefused}
+use Rattle.capture_core.specs.CaptureAnswer.{usual_limits}
+use Rattle.archives.proofs.Words.{Archive, Bool, Kind}
+use Rattle.archives.proofs.PackedLemmas.{packed_follows, packed_stand}
 use Rattle.archives.proofs.WalkingLemmas.{fault_later}
 
 -- what comes at an offset comes at an earlier one, with members without text between them
@@ -79,3 +83,23 @@ open_fails offset f left mid ahead before after o onward = record {
   comes = open_comes offset f left mid ahead before after o;
   follows = packed_follows HEAD_LIMIT offset f.offset onward;
 }
+
+-- ---- there was no memory
+
+no_memory_at : (bytes : List ℕ) → IsPossibleFault (packed HEAD_LIMIT) 0 bytes no_memory
+no_memory_at bytes = (packed_follows HEAD_LIMIT 0 0 (omega arith), inl refl)
+
+no_memory_comes : (before after : Option (List ℕ)) → Comes (packed HEAD_LIMIT) 0 (Err no_memory) before after
+no_memory_comes None after = tt
+no_memory_comes (Some bytes) after = no_memory_at bytes
+
+pub no_memory_fails : (before after : Option (List ℕ)) → FailsAt (packed HEAD_LIMIT) 0 no_memory before after
+no_memory_fails before after = record {
+  comes = no_memory_comes before after;
+  follows = packed_follows HEAD_LIMIT 0 0 (omega arith);
+}
+
+pub no_memory_refuses : (types : Kind → Bool) (name : List ℕ) (before : Option (List ℕ))
+    → IfSome before (λ bytes. MayBeRefused types usual_limits (packed HEAD_LIMIT) name 0 bytes (Archive no_memory))
+no_memory_refuses types name None = tt
+no_memory_refuses types name (Some bytes) = no_memory_at bytes

@@ -10,3 +10,5 @@ pub mod MemberCaptures
 pub mod Looked
 pub mod Either
 pub mod Failed
+pub mod PackedState
+pub mod Opened

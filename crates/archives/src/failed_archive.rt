@@ -20,6 +20,7 @@ const FAILED: Fault = Fault {
 
 impl<I: Input> FailedArchive<I> {
     ghost use Rattle.std.specs.Prelude.{◌≡◌};
+    ghost use Rattle.devices.specs.Device.{next_count};
     ghost use Rattle.archives.specs.Failed.{failed_state};
     ghost use Rattle.archives.specs.State.{IsUnread};
 
@@ -31,6 +32,14 @@ impl<I: Input> FailedArchive<I> {
     {
         FailedArchive { input, failures: 0 }
     }
+
+    /// Counts a call that fails.
+    pub fn fail(&mut self)
+        ensures input { self.new.input ≡ self.old.input }
+        ensures failures { self.new.failures ≡ next_count self.old.failures }
+    {
+        self.failures = self.failures.saturating_add(1);
+    }
 }
 
 impl<I: Input> Archive for FailedArchive<I> {
@@ -39,12 +48,12 @@ impl<I: Input> Archive for FailedArchive<I> {
     ghost state = { λ a. failed_state (I.remaining a.input) a.failures };
 
     fn next_record(&mut self) -> Result<Option<PlacedRecord>, Fault> {
-        self.failures = self.failures.saturating_add(1);
+        self.fail();
         Err(FAILED)
     }
 
     fn next_verdict(&mut self) -> Result<Option<(PlacedRecord, Verdict)>, Fault> {
-        self.failures = self.failures.saturating_add(1);
+        self.fail();
         Err(FAILED)
     }
 
@@ -54,7 +63,7 @@ impl<I: Input> Archive for FailedArchive<I> {
         name: &str,
         types: Types,
     ) -> Result<Option<(PlacedRecord, Option<HeldLine>)>, CaptureFault> {
-        self.failures = self.failures.saturating_add(1);
+        self.fail();
         Err(CaptureFault::Archive(FAILED))
     }
 

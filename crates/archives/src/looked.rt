@@ -4,7 +4,7 @@ ghost use Rattle.std.specs.Prelude.{option_to_list};
 ghost use Rattle.std.specs.Io.KnownBytes.{Consumes, ConsumesCount, IsAtEnd, Keeps, ReadConsumes};
 ghost use Rattle.std.specs.Io.KnownBytes.{prepend_known};
 ghost use Rattle.devices.specs.Device.{CountsFailure};
-ghost use Rattle.archives.specs.Looked.{LooksAt, TellsPacking, first_bytes};
+ghost use Rattle.archives.specs.Looked.{LooksAt, TellsPacking, count_if, first_bytes};
 ghost use Rattle.archives.specs.Packing.{Packed, Plain, packing_of};
 
 use capture_core::Input;
@@ -56,6 +56,7 @@ fn read_byte<I: Input>(input: &mut I) -> Result<Option<u8>, DeviceFault>
         (option_to_list byte)) }
     ensures end { IfOk result (λ byte. byte ≡ None → IsAtEnd (I.remaining input.new)) }
     ensures kept { OnErr result (Keeps (I.remaining input.old) (I.remaining input.new)) }
+    ensures failures { CountsFailure result (I.failures input.old) (I.failures input.new) }
 {
     let mut piece = [0];
     match input.read(&mut piece)? {
@@ -67,8 +68,9 @@ fn read_byte<I: Input>(input: &mut I) -> Result<Option<u8>, DeviceFault>
 /// Reads the first two bytes, or all if there are fewer, and returns them with whether the input
 /// failed.
 fn look<I: Input>(input: &mut I) -> (First, bool)
-    ensures { LooksAt (first_bytes result.0) result.1 (I.remaining input.old)
+    ensures looks { LooksAt (first_bytes result.0) result.1 (I.remaining input.old)
         (I.remaining input.new) }
+    ensures failures { I.failures input.new ≡ count_if result.1 (I.failures input.old) }
 {
     match read_byte(input) {
         Err(_) => (First::Nothing, true),
@@ -88,6 +90,7 @@ impl<I: Input> Looked<I> {
             (prepend_known (first_bytes result.first) (I.remaining result.input)) }
         ensures packing { TellsPacking (first_bytes result.first) result.has_failed
             (I.remaining input) }
+        ensures failed { I.failures result.input ≡ count_if result.has_failed (I.failures input) }
         ensures failures { result.failures ≡ 0 }
     {
         let mut input = input;

@@ -21,3 +21,4 @@ mod FormLemmas
 mod OneTextLemmas
 mod OneRecordLemmas
 mod OneAddLemmas
+mod FailedLemmas

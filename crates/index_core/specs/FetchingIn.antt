@@ -81,6 +81,10 @@ abbrev pub PassesTo : ℕ → Bool → Option (List ℕ) → List ℕ → Type 0
 PassesTo offset true ahead archive = ahead ≡ Some (drop offset archive)
 PassesTo offset false ahead archive = drop offset archive ≡ []
 
+-- the input failed at its first bytes, so that it isn't known how the archive keeps its records
+abbrev pub not_looked : IndexFault
+not_looked = faults.Capture (Archive (record { offset = 0; cause = causes.Read }))
+
 -- the same of an archive of either form: of a plain one the record at the offset, or the one of a length, whatever
 -- precedes it
 abbrev pub FetchesIn : Packing → Option ℕ → ℕ → Option (List ℕ) → Result ℕ IndexFault → Option (List ℕ)
@@ -89,6 +93,7 @@ FetchesIn Plain None offset left answer before after = Fetches HEAD_LIMIT offset
 FetchesIn Plain (Some len) offset left answer before after = FetchesAt HEAD_LIMIT offset len left answer before after
 FetchesIn Packed asked offset left answer before after =
     FetchesMember HEAD_LIMIT asked offset (option_map (drop offset) left) answer before after
+    ⊎ ((answer ≡ Err not_looked) × (after ≡ before))
 
 -- nothing was written before this fault: in a plain archive it was met before the offset, or no record begins there. Of
 -- a member of another length a part may have been written.

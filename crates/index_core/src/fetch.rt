@@ -16,7 +16,8 @@ pub trait Fetch: Archive {
     /// a member unpacked. Nothing of the archive was read before.
     ///
     /// Errors are `NoRecord` if no record begins there; the archive's fault there, or of a plain
-    /// archive before it; and `Write` at the output's first failure.
+    /// archive before it; the input's failure at the archive's start; and `Write` at the output's
+    /// first failure.
     fn get<O: Output>(&mut self, offset: u64, out: &mut O) -> Result<u64, IndexFault>
         requires { IsUnread (Self.state self.old) }
         ensures fetches { FetchesIn (Self.state self.old).packing None offset

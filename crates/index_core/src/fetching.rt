@@ -17,7 +17,7 @@ use archives::PlainArchive;
 use warc_core::{Fault, HEAD_LIMIT, Head, Input, Output, Phase, Reader};
 
 /// The greatest offset of a record.
-const GREATEST_OFFSET: u64 = (1 << 63) - 1;
+pub const GREATEST_OFFSET: u64 = (1 << 63) - 1;
 
 impl<I: Input> Fetch for PlainArchive<I> {
     /// The input is not called for anything after the record. `NoRecord` is returned if a record

@@ -8,6 +8,9 @@ mod captures;
 mod copying;
 mod fault;
 mod fetch;
+mod fetch_either;
+mod fetch_failed;
+mod fetch_packed;
 mod fetching;
 mod index_lines;
 mod indexer;
@@ -33,7 +36,10 @@ pub use crate::laws::{
 pub use crate::listing::list;
 pub use crate::verified::Verified;
 pub use crate::verifying::verify;
-pub use archives::{Archive, PlacedRecord, PlainArchive};
+pub use archives::{
+    AnyArchive, Archive, EitherArchive, FailedArchive, Looked, PackedArchive, PlacedRecord,
+    PlainArchive, open,
+};
 pub use capture_core::{CaptureFault, Types, Verdict};
 pub use cdxj_core::LINE_LIMIT;
 pub use warc_core::{

@@ -20,13 +20,11 @@ ghost use Rattle.index_core.specs.FetchingIn.{PassesTo, cause_in, not_begun};
 
 use crate::copying::copy_record;
 use crate::fault::IndexFault;
+use crate::fetching::GREATEST_OFFSET;
 use archives::{CaptureFault, Opening, Reading, cause_of, end_fault, end_record, open_begun};
 use gzip_members::{MemberFault, MemberText, Members, Outcome};
 use std::marker::Brand;
 use warc_core::{Cause, Fault, Head, Input, Output, Reader};
-
-/// The greatest offset of a member.
-const GREATEST_OFFSET: u64 = (1 << 63) - 1;
 
 /// A file from whose member a record was fetched, and what was answered.
 #[derive(Drop)]

@@ -2,7 +2,6 @@
 use Rattle.std.proofs.Common.{arith, ◌≡◌, ℕ, ◌+◌, ◌<◌, List, [], ◌∷◌, ◌++◌, ◌∙◌, false, Option, Result, IfOk, is_err}
 use Rattle.std.proofs.Common.{map, length, get_or, take, ap, sym}
 use Rattle.std.proofs.lemmas.List.{map-append}
-use Rattle.std.proofs.lemmas.List.Elements.{AllZip-push}
 use Rattle.std.proofs.lemmas.Simd.{map-map}
 use Rattle.std.proofs.lemmas.Grind.{take_at_read}
 use Rattle.scan_core.specs.declared.named.Named.{Named}
@@ -22,6 +21,14 @@ map-more f xs i x h e = grind (arith, take_at_read, map-append)
 pub of_ok : {A E P : Type 0} (r : Result A E) → is_err r ≡ false → IfOk r (λ _. P) → P
 of_ok r e p = grind arith
 
+-- what holds place by place holds with one more
+zip-more : {X Y : Type 0} (R : X → Y → Type 0) (xs : List X) (ys : List Y) (x : X) (y : Y) → AllZip R xs ys → R x y
+    → AllZip R (xs ++ x ∷ []) (ys ++ y ∷ [])
+zip-more R [] [] x y all more = (more, tt)
+zip-more R (a ∷ xs) (b ∷ ys) x y all more = (all.0, zip-more R xs ys x y all.1 more)
+zip-more R [] (b ∷ ys) x y all more = absurd all
+zip-more R (a ∷ xs) [] x y all more = absurd all
+
 -- one more archive was opened
 pub opened-more : {A : Type 0} (state : A → ArchiveState) (Tells : List ℕ → ToldArchive → Type 0)
     (given : Option (List ℕ)) (before after : List (List ℕ)) (name named : List ℕ) (input : A) (old new : List (Named A))
@@ -35,7 +42,7 @@ opened-more state Tells given before after name named input old new grown is has
       ≡ map (λ archive. state archive.archive) old ++ state input ∷ [] =
       sym (map-map state (λ archive. archive.archive) new) ∙ ap (map state) gained
       ∙ grind (arith, map-append, map-map) in
-      rw (grown, left) (AllZip-push (λ name s. OpensAs (Tells name) s) _ _ _ _ opened.opened has);
+      rw (grown, left) (zip-more (λ name s. OpensAs (Tells name) s) _ _ _ _ opened.opened has);
 }
 
 -- archives that were opened may be told so, and none of them was read

@@ -1,6 +1,7 @@
 -- What a task promises of an output that is unchanged, it promises too where less is said of it.
 use Rattle.std.proofs.Common.{arith, inl, inr, ℕ, List, Option, None, Some, Bool, true, false, Result, Ok, Err}
 use Rattle.std.specs.Prelude.{IfErr, MatchBool}
+use Rattle.archives.specs.State.{ToldArchive}
 use Rattle.command_line.specs.Commands.{Meaning, ToList, ToVerify, ToIndex, ToMerge, ToCheck, ToQuery, ToPages, ToServe}
 use Rattle.command_line.specs.Commands.{ToGet, ToScan}
 use Rattle.index_core.specs.declared.fault.IndexFault.{IndexFault}
@@ -56,7 +57,7 @@ module _ {U V : Type 0} (less : U → V) where
   unwritten P (Ok size) h = tt
   unwritten P (Err fault) h = λ met. less (h met)
 
-  fetches : (len : Option ℕ) (offset : ℕ) (archive before after : Option (List ℕ)) (outcome : Outcome)
+  fetches : (len : Option ℕ) (offset : ℕ) (archive : ToldArchive) (before after : Option (List ℕ)) (outcome : Outcome)
       → WritesRecord len offset archive before after U outcome → WritesRecord len offset archive before after V outcome
   fetches len offset archive before after outcome h = grind (arith, unwritten)
 
@@ -74,6 +75,7 @@ module _ {U V : Type 0} (less : U → V) where
   performs_less files before after outcome (ToPages sizes text names) h =
       reads text outcome (λ query. opens (pages query sizes _ _ _ _)) h
   performs_less files before after outcome (ToServe names) h = opens (serves _ _ _ _ _) h
-  performs_less files before after outcome (ToGet len offset name) h = opens (fetches len offset _ _ _ _) h
+  performs_less files before after outcome (ToGet len offset name) h =
+      opens (λ told. (told.0, told.1, fetches len offset told.0 _ _ _ told.2)) h
   performs_less files before after outcome (ToScan types input sizes text names) h =
       reads text outcome (λ query. opens (λ scans. scans)) h

@@ -4,6 +4,7 @@ use std::alloc::Global;
 use std::rt::Runtime;
 
 /// The process, and the program that it runs.
+#[derive(Drop)]
 pub struct Console<'a, R> {
     pub(crate) rt: &'a R,
     pub(crate) program: Program,

@@ -1,16 +1,13 @@
-use Rattle.std.proofs.Common.{ap, option_map, subst, sym}
+use Rattle.std.proofs.Common.{ap, option_map}
 use Rattle.capture_core.specs.Capture.{entry_from}
 use Rattle.capture_core.specs.CaptureAnswer.{usual_limits}
 use Rattle.capture_core.specs.Types.{includes}
-use Rattle.cdxj_core.specs.Entries.{EntryValue}
-use Rattle.std.proofs.Common.{Option, List, ℕ, Some}
 use Rattle.warc_core.specs.declared.next.TheConstants.{HEAD_LIMIT}
 use Rattle.warc_core.specs.Record.{after_record}
 use Rattle.gzip_members.specs.Left.{left_of}
 use Rattle.gzip_members.specs.Reading.{taken}
 use Rattle.archives.specs.Captures.{IsCaptureFrom}
-use Rattle.archives.specs.Form.{ComesRecord}
-use Rattle.archives.specs.MemberReading.{HoldsHead, file_ahead}
+use Rattle.archives.specs.MemberReading.{file_ahead}
 use Rattle.archives.specs.Packed.{packed}
 use Rattle.archives.proofs.MemberCaptureLemmas.{captured_there, line_refused, reading_err}
 use Rattle.archives.proofs.RecordLemmas.{counts_closed, member_fails, record_fails, record_there}
