@@ -27,7 +27,7 @@ impl<I: Input> Fetch for PlainArchive<I> {
     /// the record that begins there.
     fn get<O: Output>(&mut self, offset: u64, out: &mut O) -> Result<u64, IndexFault> {
         match &mut self.reader {
-            Ok(reader) => get(reader, &mut self.input, offset, out),
+            Ok(reader) => get_plain(reader, &mut self.input, offset, out),
             Err(fault) => Err(IndexFault::from(*fault)),
         }
     }
@@ -46,7 +46,7 @@ impl<I: Input> Fetch for PlainArchive<I> {
             return Err(IndexFault::NoRecord);
         }
         match &mut self.reader {
-            Ok(reader) => get_at(reader, &mut self.input, offset, length, out),
+            Ok(reader) => get_plain_at(reader, &mut self.input, offset, length, out),
             Err(Fault { cause, .. }) => Err(IndexFault::from(Fault {
                 offset,
                 cause: *cause,
@@ -58,7 +58,7 @@ impl<I: Input> Fetch for PlainArchive<I> {
 /// Writes the record that begins at `offset` and returns its length in bytes, by a reader at the
 /// archive's start.
 #[tactic(auto, using(crate::proofs::FetchLemmas::fetch_rules))]
-fn get<I: Input, O: Output>(
+fn get_plain<I: Input, O: Output>(
     reader: &mut Reader,
     input: &mut I,
     offset: u64,
@@ -83,7 +83,7 @@ fn get<I: Input, O: Output>(
 /// Writes the record of `length` bytes that begins at `offset`, and returns its length, by a reader
 /// at the archive's start. What precedes the offset is passed over.
 #[tactic(auto, using(crate::proofs::FetchLemmas::fetch_rules))]
-fn get_at<I: Input, O: Output>(
+fn get_plain_at<I: Input, O: Output>(
     reader: &mut Reader,
     input: &mut I,
     offset: u64,

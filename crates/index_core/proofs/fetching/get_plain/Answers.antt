@@ -1,7 +1,7 @@
 use Rattle.index_core.proofs.Words.{arith, err_from_is_err_and}
 use Rattle.devices.proofs.WritingLemmas.{wrote_nothing}
 use Rattle.index_core.proofs.FetchLemmas.{fetched}
-use Rattle.index_core.proofs.fetching.get.Goals as goal
+use Rattle.index_core.proofs.fetching.get_plain.Goals as goal
 
 pub returns-then-branch-clause-fetches : goal.returns-then-branch-clause-fetches
 returns-then-branch-clause-fetches g c = grind (arith, fetched)
