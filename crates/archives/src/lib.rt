@@ -27,7 +27,7 @@ pub use crate::member_bounds::cause_of;
 pub use crate::member_opening::{Opening, open_begun};
 pub use crate::member_reading::Reading;
 pub use crate::member_records::{end_fault, end_record};
-pub use crate::packed_archive::PackedArchive;
+pub use crate::packed_archive::{PackedArchive, PackedFile};
 pub use crate::placed_record::PlacedRecord;
 pub use crate::plain_archive::PlainArchive;
 pub use capture_core::{

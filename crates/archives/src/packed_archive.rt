@@ -18,7 +18,7 @@ use std::mem;
 #[derive(Drop)]
 pub struct PackedArchive<I: Input> {
     alloc: Global,
-    file: PackedFile<I>,
+    pub file: PackedFile<I>,
 }
 
 /// The file of a compressed archive.

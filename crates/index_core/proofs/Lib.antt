@@ -12,6 +12,7 @@ pub mod SoundLemmas
 mod CopyLemmas
 mod FetchLemmas
 mod FetchAtLemmas
+mod MemberFetchLemmas
 mod FetchedLemmas
 mod OffsetLemmas
 pub mod LimitLemmas

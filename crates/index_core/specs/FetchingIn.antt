@@ -66,6 +66,11 @@ FetchesMember limit asked offset known (Err faults.Write) before after = IfSome 
     (λ bytes. WritesOfMember limit bytes before after)
 FetchesMember limit asked offset known (Err other) before after = ⊥
 
+-- why a record can't be read, unless the output failed
+abbrev pub cause_in : IndexFault → Option Cause
+cause_in (faults.Capture (Archive f)) = Some f.cause
+cause_in fault = None
+
 -- why no record is fetched where no member was begun
 abbrev pub not_begun : ℕ → MemberFault → IndexFault
 not_begun offset NoMember = faults.NoRecord
