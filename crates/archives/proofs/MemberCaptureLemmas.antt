@@ -64,9 +64,10 @@ module _ (types : Kind → Bool) (name : List ℕ) where
   captured_there h place parts (Some text) None r g = absurd r
   captured_there h place parts (Some text) (Some y) r g =
       let same = ap (take h.parts.block_length) (behind_head HEAD_LIMIT 0 h text y r) in
-      captured_under (url_of types h) usual_limits.http_head usual_limits.http_fields place h (block_at h text) name parts
-      (subst (λ (block : List ℕ). ArePartsUnder (url_of types h) usual_limits.http_head usual_limits.http_fields h block
-      parts) (sym same) g)
+      let limit = usual_limits.http_head in
+      let few = usual_limits.http_fields in
+      captured_under (url_of types h) limit few place h (block_at h text) name parts
+      (subst (λ (block : List ℕ). ArePartsUnder (url_of types h) limit few h block parts) (sym same) g)
 
   refused_next : (start : ℕ) (bytes : List ℕ) (place : Place) (r : Stored) (after : Option (List ℕ))
       → place.offset ≡ start → r.place ≡ place
@@ -84,7 +85,8 @@ module _ (types : Kind → Bool) (name : List ℕ) where
       → MayBeRefused types usual_limits (packed HEAD_LIMIT) name start bytes fault
   line_refused start bytes h place parts (Archive f) after at comes (offset, memory) =
       (packed_follows HEAD_LIMIT start f.offset (omega arith), inl memory)
-  line_refused start bytes h place parts (LineTooLong o) after at (r, placed, comes, captured) (offset, p, some, long) =
+  line_refused start bytes h place parts (LineTooLong o) after at (r, placed, comes, captured)
+      (offset, p, some, long) =
       let is : r.place ≡ place = ap (λ q. q.place) placed in
       let n = refused_next start bytes place r after at is comes in (
         r,
@@ -102,7 +104,8 @@ module _ (types : Kind → Bool) (name : List ℕ) where
             usual_limits.http_fields r.place place r.head r.block name parts some captured,
       )
 
-  -- what was refused at an offset is refused at an earlier one, with members without text between them
+  -- what was refused at an offset is refused at an earlier one, with members without text between
+  -- them
   refused_later : (offset start : ℕ) (bytes later : List ℕ) (fault : CaptureFault) → offset ≤ start
       → (packed HEAD_LIMIT).next offset bytes ≡ (packed HEAD_LIMIT).next start later
       → MayBeRefused types usual_limits (packed HEAD_LIMIT) name start later fault

@@ -59,7 +59,8 @@ total_known now n e = from now.ahead refl e
     from None is k = absurd cc
     from (Some rest) is k = (rest, is, grind arith)
 
-pub total_is : (now : Taken) (bytes : List ℕ) → now.ahead ≡ Some bytes → total_of now ≡ Some (now.passed + length bytes)
+pub total_is : (now : Taken) (bytes : List ℕ) → now.ahead ≡ Some bytes
+    → total_of now ≡ Some (now.passed + length bytes)
 total_is now bytes e = ap (option_map (λ (l : List ℕ). now.passed + length l)) e
 
 no_bytes : (bytes : List ℕ) → length bytes ≡ 0 → bytes ≡ []
@@ -106,7 +107,8 @@ IsBegun old r left = (bytes : List ℕ) → old.ahead ≡ Some bytes → old.pas
 
 pub begins_not : (old new : Taken) (fault : MemberFault) (left : Option Left) → IsBegun old (Err fault) left
     → IfSome (file_ahead old)
-    (λ bytes. StartsMember old.passed bytes (Err (record { offset = old.passed; cause = member_cause fault })) left new)
+    (λ bytes. StartsMember old.passed bytes
+    (Err (record { offset = old.passed; cause = member_cause fault })) left new)
 begins_not old new fault left b = some_known (file_ahead old) λ bytes e.
     let k = within_known old.passed old.ahead bytes e in
     starts_fault old.passed bytes fault left (b bytes k.0 k.1)
@@ -117,7 +119,8 @@ starts_at : (old new : Taken) (begins : Bool) (left : Option Left) (bytes : List
 starts_at old new true left bytes m e near s =
     (s.0, s.1, m.counted (old.passed + length bytes) (total_is old bytes e))
 starts_at old new false left bytes m e near s =
-    let t = total_known new (old.passed + length bytes) (m.counted (old.passed + length bytes) (total_is old bytes e)) in
+    let total = m.counted (old.passed + length bytes) (total_is old bytes e) in
+    let t = total_known new (old.passed + length bytes) total in
     let none = no_bytes t.0 (omega (arith, ap length s, t.2, m.onward)) in
     (s, within_is new.passed new.ahead [] (t.1 ∙ ap (λ (l : List ℕ). Some l) none) (omega (arith, ap length s, t.2)))
 

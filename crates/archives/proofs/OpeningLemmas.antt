@@ -47,7 +47,8 @@ closed_fault (Ok false) holds d = refl
 closed_fault (Err c) holds d = refl
 
 -- the text behind a record, of which some is held
-some_behind : (held text : List ℕ) → (nat_lt 0 (length held) || nat_lt 0 (length text)) ≡ nat_lt 0 (length (held ++ text))
+some_behind : (held text : List ℕ)
+    → (nat_lt 0 (length held) || nat_lt 0 (length text)) ≡ nat_lt 0 (length (held ++ text))
 some_behind [] text = refl
 some_behind (b ∷ held) text =
     ap (λ (v : Bool). v || nat_lt 0 (length text)) (lt-ltb 0 (length (b ∷ held)) (omega arith))
@@ -79,7 +80,8 @@ module _ (held : List ℕ) (A : Type 0) (r : Result A Cause) (ahead : Option (Li
       let several = ap (λ (b : Bool). if b then Err causes.SeveralRecords else Ok later) (some_behind held more) in
       let shut = held_behind h text (held ++ more) behind in
       let as_read = ap (λ x. behind_in (held_with behind (held_by text x))) (sym e) in
-      let last = ap (λ (l : List ℕ). if nat_lt 0 (length (held ++ more)) then Err causes.SeveralRecords else Ok l) same in
+      let last = ap (λ (l : List ℕ).
+      if nat_lt 0 (length (held ++ more)) then Err causes.SeveralRecords else Ok l) same in
       subst Closes (several ∙ last ∙ shut ∙ as_read) k
   holds_text (Err c) text behind more later same (inl memory) k = closes_possible c _ (inl memory) k
   holds_text (Err c) text behind more later same (inr (inl input)) k = closes_possible c _ (inr input) k
@@ -172,7 +174,8 @@ passes_there start bytes rest new near b e total ahead =
 
 -- ---- a member that was begun
 
-from_front : {A : Type 0} (f : List ℕ → Result (A × List ℕ) Cause) (r : Result A Cause) (known after : Option (List ℕ))
+from_front : {A : Type 0} (f : List ℕ → Result (A × List ℕ) Cause) (r : Result A Cause)
+    (known after : Option (List ℕ))
     → Reads f r (prepend_known [] known) after → Reads f r known after
 from_front f r None after e = tt
 from_front f r (Some bytes) after e = e
@@ -237,7 +240,8 @@ module _ (start : ℕ) (bytes : List ℕ) (left left' : Option Left) (old mid ne
           → (r : Result Opening Fault) → IfOk r (λ o. o ≡ Empty) → IfErr r (λ f. f.offset ≡ start)
           → ClosesTo (behind_in (member_holds HEAD_LIMIT bytes)) (causes_of r) new.ahead
           → OpensMember start bytes r other new ahead
-      by_result read (Ok Empty) empty at k = passed_over (prepend_known held (text_of left')) new.ahead read moves refl k
+      by_result read (Ok Empty) empty at k =
+          passed_over (prepend_known held (text_of left')) new.ahead read moves refl k
       by_result read (Ok (Record h)) empty at k = absurd cc
       by_result read (Ok End) empty at k = absurd cc
       by_result read (Err f) empty at k = fault_at start bytes f at (fails_there start bytes f.cause s.0 k)

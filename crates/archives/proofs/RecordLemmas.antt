@@ -44,7 +44,8 @@ pub holds_some : (bytes : List ℕ) (h : HeadView) (rest : List ℕ) (ahead : Op
 unfolding member_holds
 holds_some bytes h rest ahead e k = some_in (member_in bytes) h rest ahead e k
 
-text_has : (P : List ℕ → Type 0) (known : Option (List ℕ)) (text : List ℕ) → IfSome known P → known ≡ Some text → P text
+text_has : (P : List ℕ → Type 0) (known : Option (List ℕ)) (text : List ℕ) → IfSome known P
+    → known ≡ Some text → P text
 text_has P None text h e = absurd cc
 text_has P (Some x) text h e = (let same : x ≡ text = grind arith in subst P same h)
 

@@ -13,7 +13,8 @@ use Rattle.archives.specs.Captures.{IsCaptureFrom, MayBeRefused}
 use Rattle.archives.specs.Form.{ComesRecord, Placed}
 use Rattle.archives.specs.Packed.{packed}
 
--- the entry of a record that gives these parts, at this place, or none where it gives none; or why it has no line
+-- the entry of a record that gives these parts, at this place, or none where it gives none; or why
+-- it has no line
 abbrev pub AnswersLine : ℕ → Place → List ℕ → Option PartsValue → Result (Option EntryValue) CaptureFault → Type 0
 AnswersLine limit place name parts (Ok captured) = captured ≡ option_map (entry_from place name) parts
 AnswersLine limit place name parts (Err (Archive f)) = (f.offset ≡ place.offset) × (f.cause ≡ Memory)
@@ -21,8 +22,8 @@ AnswersLine limit place name parts (Err (LineTooLong o)) = (o ≡ place.offset)
     × (p : PartsValue) × (parts ≡ Some p) × (limit < length (line_text (entry_from place name p)))
 AnswersLine limit place name parts (Err (KeyTooLong o)) = (o ≡ place.offset) × IsSome parts
 
--- The record of the member that begins these bytes was read to its end, with its capture under the archive's name; or why
--- it was not.
+-- The record of the member that begins these bytes was read to its end, with its capture under the
+-- archive's name; or why it was not.
 abbrev pub TakesCapture : (Kind → Bool) → List ℕ → ℕ → List ℕ → Result (Placed × Option EntryValue) CaptureFault
     → Option (List ℕ) → Type 0
 TakesCapture types name start bytes (Ok (p, captured)) after = ComesRecord (packed HEAD_LIMIT) start p

@@ -1,5 +1,6 @@
 -- What is known of a compressed archive while the members are read.
-use Rattle.std.specs.Prelude.{◌≡◌, ◌⊎◌, ◌||◌, ℕ, ◌+◌, ◌-◌, ◌^◌, ◌<◌, ◌≤◌, ⊤, nat_lt, Bool, true, false, List, [], length}
+use Rattle.std.specs.Prelude.{◌≡◌, ◌⊎◌, ◌||◌, ℕ, ◌+◌, ◌-◌, ◌^◌, ◌<◌, ◌≤◌, ⊤, nat_lt}
+use Rattle.std.specs.Prelude.{Bool, true, false, List, [], length}
 use Rattle.std.specs.Prelude.{Option, None, Some, option_map, Result, Ok, Err, if◌then◌else◌}
 use Rattle.deflate_bits.specs.declared.fault.DeflateFault.{DeflateFault}
 use Rattle.gzip_members.specs.declared.members.Members.{Members}
@@ -27,7 +28,8 @@ use Rattle.archives.specs.Packed.{member_cause, packed}
 abbrev pub Left : Type 0
 Left = Result (List ℕ × List ℕ) DeflateFault
 
--- known bytes of a file behind those that were passed; nothing is said of a file of 2^63 bytes or more
+-- known bytes of a file behind those that were passed; nothing is said of a file of 2^63 bytes or
+-- more
 abbrev pub within_file : ℕ → Option (List ℕ) → Option (List ℕ)
 within_file passed None = None
 within_file passed (Some bytes) = if nat_lt (2 ^ 63 - 1) (passed + length bytes) then None else Some bytes
@@ -46,7 +48,8 @@ text_state {I} {g} reader m = record {
 
 -- ---- a member's text was read further
 
--- of a member, what stands behind it is known, and how many bytes were taken at least, and the file's length
+-- of a member, what stands behind it is known, and how many bytes were taken at least, and the
+-- file's length
 pub record IsKnown (behind : Option (Result (List ℕ) DeflateFault)) (from : ℕ) (total : Option ℕ) (left : Option Left)
     (now : Taken) : Type 0 where
   pub stays : (r : Result (List ℕ) DeflateFault) → behind ≡ Some r → option_map behind_of left ≡ Some r
@@ -68,8 +71,9 @@ StartsMember start bytes (Err f) left new = IsPossibleFault (packed HEAD_LIMIT) 
 
 -- ---- a member was read to its end
 
--- what is behind a member, once it was read to its end, or the fault of what it holds. Its own comes first; then that of
--- its text, where a record was found, or none; then that text follows the record. Some of the text may be held.
+-- what is behind a member, once it was read to its end, or the fault of what it holds. Its own
+-- comes first; then that of its text, where a record was found, or none; then that text follows the
+-- record. Some of the text may be held.
 abbrev pub closed_by : Result Bool Cause → Bool → Left → Result (List ℕ) Cause
 closed_by found holds (Err fault) = Err (member_cause (member_fault fault))
 closed_by (Err c) holds (Ok (text, behind)) = Err c
@@ -99,8 +103,8 @@ CountsClosing (Err c) r old new = CountsRead r old new
 
 -- ---- a record was begun in a member
 
--- A member begins with these bytes, and its text with this head. What is behind it is known, how long the file is, and
--- what of the text is ahead.
+-- A member begins with these bytes, and its text with this head. What is behind it is known, how
+-- long the file is, and what of the text is ahead.
 pub record HoldsHead (start : ℕ) (bytes : List ℕ) (h : HeadView) (left : Option Left) (new : Taken)
     (ahead : Option (List ℕ)) : Type 0 where
   pub begins : begins_member bytes ≡ Ok true
@@ -114,7 +118,8 @@ abbrev pub IsLater : ℕ → List ℕ → Taken → Type 0
 IsLater offset bytes now = (later : List ℕ) × (file_ahead now ≡ Some later)
     × ((packed HEAD_LIMIT).next offset bytes ≡ (packed HEAD_LIMIT).next now.passed later)
 
--- what stands at the front of the member that begins these bytes; one without text was read to its end
+-- what stands at the front of the member that begins these bytes; one without text was read to its
+-- end
 abbrev pub OpensMember : ℕ → List ℕ → Result Opening Fault → Option Left → Taken → Option (List ℕ) → Type 0
 OpensMember start bytes (Ok (Record h)) left new ahead = HoldsHead start bytes h left new ahead
 OpensMember start bytes (Ok Empty) left new ahead = IsLater start bytes new
@@ -141,7 +146,8 @@ Begins (Ok End) = ⊥
 Begins (Err f) = ⊥
 
 -- where the first record stands from an offset on; members without text were passed over
-abbrev pub OpensRecord : ℕ → List ℕ → Result (Option OpenRecord) Fault → Option Left → Taken → Option (List ℕ) → Type 0
+abbrev pub OpensRecord : ℕ → List ℕ → Result (Option OpenRecord) Fault → Option Left → Taken
+    → Option (List ℕ) → Type 0
 OpensRecord offset bytes (Ok None) left new ahead =
     Comes (packed HEAD_LIMIT) offset (Ok None) (Some bytes) (file_ahead new)
 OpensRecord offset bytes (Ok (Some r)) left new ahead = (later : List ℕ)
@@ -157,8 +163,8 @@ pub record StandsOpen (offset : ℕ) (r : OpenRecord) (passed : ℕ) (new : Read
 
 -- ---- a record was taken from a member
 
--- The record of the member that begins these bytes was read to its end, and this holds of what was taken from it; or why
--- it was not.
+-- The record of the member that begins these bytes was read to its end, and this holds of what was
+-- taken from it; or why it was not.
 abbrev pub TakesMember : {X : Type 0} → (X → Placed) → (X → Stored → Type 0) → ℕ → List ℕ → Result X Fault
     → Option (List ℕ) → Type 0
 TakesMember placed P start bytes (Ok x) after =

@@ -1,4 +1,5 @@
--- Compressed archives: each record is a member of gzip of its own (RFC 1952; ISO 28500:2017, Annex D).
+-- Compressed archives: each record is a member of gzip of its own (RFC 1952; ISO 28500:2017, Annex
+-- D).
 use Rattle.std.specs.Prelude.{◌≡◌, ℕ, zero, suc, ◌+◌, ◌-◌, ◌≤◌, Bool, true, false, List, [], ◌∷◌, length}
 use Rattle.std.specs.Prelude.{Option, None, Some, Result, Ok, Err}
 use Rattle.deflate_bits.specs.declared.fault.DeflateFault.{DeflateFault}
@@ -23,7 +24,8 @@ member_cause faults.Cut = causes.CutMember
 member_cause faults.TooFar = causes.TooFar
 member_cause faults.TooLong = causes.Memory
 
--- the head of the record that a member holds, and the member's text; nothing where the text is empty
+-- the head of the record that a member holds, and the member's text; nothing where the text is
+-- empty
 abbrev pub Held : Type 0
 Held = Option (HeadView × List ℕ)
 
@@ -60,7 +62,8 @@ packed_record offset bytes h text behind = record {
 abbrev pub Found : Type 0
 Found = Result (Option Stored × List ℕ) Fault
 
--- by what the member there holds; one that holds nothing is passed over, and `more` says what comes next behind it
+-- by what the member there holds; one that holds nothing is passed over, and `more` says what comes
+-- next behind it
 abbrev pub packed_next : (ℕ → List ℕ → Found) → ℕ → List ℕ → Result (Held × List ℕ) Cause → Found
 packed_next more offset bytes (Ok (None, behind)) = more (offset + (length bytes - length behind)) behind
 packed_next more offset bytes (Ok (Some (h, text), behind)) =

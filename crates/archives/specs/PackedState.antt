@@ -7,7 +7,8 @@ use Rattle.archives.specs.MemberReading.{file_ahead, within_file}
 use Rattle.archives.specs.Packing.{Packed}
 use Rattle.archives.specs.State.{ArchiveState}
 
--- what is known of a compressed archive, by its file; nothing is said of the bytes of a file of 2^63 bytes or more
+-- what is known of a compressed archive, by its file; nothing is said of the bytes of a file of
+-- 2^63 bytes or more
 abbrev pub packed_state : {I : Type 0} {g : _} → PackedFile I g → ArchiveState
 packed_state {I} {g} (Ready members reader) = record {
   packing = Packed;

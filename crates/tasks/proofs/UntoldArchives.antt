@@ -1,5 +1,5 @@
 -- What is promised over an archive whose bytes are known is promised without them.
-use Rattle.std.proofs.Common.{arith, ℕ, List, Option, None, Some, Result}
+use Rattle.std.proofs.Common.{arith, ℕ, inl, inr, List, Option, None, Some, Result}
 use Rattle.archives.specs.Form.{Form, Stored}
 use Rattle.archives.specs.Packing.{Packing, Packed, Plain}
 use Rattle.archives.specs.State.{ToldArchive}
@@ -15,6 +15,11 @@ use Rattle.tasks.specs.Indexing.{AddsArchive}
 use Rattle.index_core.specs.Indexing.{Held}
 use Rattle.tasks.specs.Reports.{WritesBelow, WritesReport}
 
+member_untold : (limit : ℕ) (asked : Option ℕ) (offset : ℕ) (known : Option (List ℕ)) (answer : Result ℕ IndexFault)
+    (before after : Option (List ℕ)) → FetchesMember limit asked offset known answer before after
+    → FetchesMember limit asked offset None answer before after
+member_untold limit asked offset known answer before after w = grind arith
+
 module _ (archive : Option (List ℕ)) where
   reports_untold : {A : Type 0} (form : Form) (line : RecordLine) (tally : List Stored → A)
       (answer : Result A IndexFault) (before after : Option (List ℕ))
@@ -29,17 +34,14 @@ module _ (archive : Option (List ℕ)) where
       → FetchesAt limit offset len archive answer before after → FetchesAt limit offset len None answer before after
   fetched_at_untold limit offset len answer before after w = grind arith
 
-  member_untold : (limit : ℕ) (asked : Option ℕ) (offset : ℕ) (answer : Result ℕ IndexFault)
-      (before after : Option (List ℕ)) → FetchesMember limit asked offset archive answer before after
-      → FetchesMember limit asked offset None answer before after
-  member_untold limit asked offset answer before after w = grind arith
-
   record_untold : (packing : Packing) (len : Option ℕ) (offset : ℕ) (answer : Result ℕ IndexFault)
       (before after : Option (List ℕ))
       → FetchesIn packing len offset archive answer before after → FetchesIn packing len offset None answer before after
   record_untold Plain None offset answer before after w = fetched_untold _ offset answer before after w
   record_untold Plain (Some len) offset answer before after w = fetched_at_untold _ offset len answer before after w
-  record_untold Packed len offset answer before after w = member_untold _ len offset answer before after w
+  record_untold Packed len offset answer before after (inl w) =
+      inl (member_untold _ len offset _ answer before after w)
+  record_untold Packed len offset answer before after (inr unread) = inr unread
 
 -- the same archive, of which no bytes are told
 abbrev pub without_bytes : ToldArchive → ToldArchive

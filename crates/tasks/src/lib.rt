@@ -27,6 +27,6 @@ pub use crate::console::Console;
 pub use crate::exit_status::{status, status_zero_is_done};
 pub use crate::opening::{ArchiveOver, Opener, System, SystemInput};
 pub use crate::outcome::Outcome;
-pub use crate::program::{perform, run_warcdx};
+pub use crate::program::{perform, run_warcdx, run_warcdx_gz};
 pub use crate::standard_input::StandardInput;
 pub use command_line::Program;

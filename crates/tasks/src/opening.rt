@@ -2,14 +2,14 @@
 ghost use Rattle.std.specs.Prelude.{◌≡◌, ℕ, List, Option, None, ⊤, IfErr, MatchResult, map};
 ghost use Rattle.command_line.specs.Words.{texts};
 ghost use Rattle.archives.specs.State.{ToldArchive};
-ghost use Rattle.tasks.specs.Opening.{HasTold, IsPlainUntold, IsUnopened, IsUnopenedIndex};
+ghost use Rattle.tasks.specs.Opening.{HasTold, IsPlainUntold, IsUnopened, IsUnopenedIndex, IsUntold};
 ghost use Rattle.tasks.specs.Opening.{AreUnopenedIndexes, OpensAs};
 
 use crate::advice::{NO_PIPE, unread_advice};
 use crate::console::Console;
 use crate::outcome::Outcome;
 use either::Either;
-use index_core::{Fetch, IndexFault, PlainArchive};
+use index_core::{AnyArchive, Fetch, IndexFault, PlainArchive, open};
 use query_core::{AnswerFault, FileSource, Source};
 use std::alloc::Global;
 use std::fs::{File, Files};
@@ -33,6 +33,14 @@ impl<I: Input + Drop> ArchiveOver<I> for PlainArchive<I> {
 
     fn over(alloc: Global, input: I) -> PlainArchive<I> {
         PlainArchive::new(alloc, input)
+    }
+}
+
+impl<I: Input + Drop> ArchiveOver<I> for AnyArchive<I> {
+    ghost may_be = { IsUntold };
+
+    fn over(alloc: Global, input: I) -> AnyArchive<I> {
+        open(alloc, input)
     }
 }
 

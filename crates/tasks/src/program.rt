@@ -2,7 +2,7 @@
 ghost use Rattle.std.specs.Prelude.{◌≡◌};
 ghost use Rattle.command_line.specs.Commands.{asked, view};
 ghost use Rattle.command_line.specs.Words.{texts};
-ghost use Rattle.tasks.specs.Opening.{IsPlainUntold};
+ghost use Rattle.tasks.specs.Opening.{IsPlainUntold, IsUntold};
 ghost use Rattle.tasks.specs.Outcome.{IsHelpOutcome};
 ghost use Rattle.tasks.specs.Performing.{IsDone, Performs};
 ghost use Rattle.tasks.specs.Words.{EndsAsDone, EndsWords};
@@ -25,7 +25,7 @@ use crate::scanning::scan_all;
 use crate::standard_input::StandardInput;
 use command_line::{Program, Task, WordsFault, read_words};
 use devices::Prompt;
-use index_core::{IndexFault, PlainArchive};
+use index_core::{AnyArchive, IndexFault, PlainArchive};
 use query_core::AnswerFault;
 use std::env::{self, Env, FillError};
 use std::io::{self, BufWriter, ErrorKind, Write};
@@ -46,6 +46,14 @@ pub fn run_warcdx<R: Runtime + AllocGlobal>(rt: &R, input: StandardInput) -> u8
     ensures { result ≡ 0 → EndsAsDone IsPlainUntold }
 {
     run::<R, PlainArchive<SystemInput<R>>>(&Console::new(rt, Program::Warcdx), input)
+}
+
+/// Runs `warcdx-gz`, and returns its exit status. The contract says of it what that of `run_warcdx` does, with archives
+/// of either form.
+pub fn run_warcdx_gz<R: Runtime + AllocGlobal>(rt: &R, input: StandardInput) -> u8
+    ensures { result ≡ 0 → EndsAsDone IsUntold }
+{
+    run::<R, AnyArchive<SystemInput<R>>>(&Console::new(rt, Program::WarcdxGz), input)
 }
 
 /// Runs a program with archives of this type, and returns its exit status.

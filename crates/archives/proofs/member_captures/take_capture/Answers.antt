@@ -24,8 +24,8 @@ returns-in-Ok-line_of-clause-takes g c = λ bytes holds.
     holds read.ensures.reads place
     (λ r. IsCaptureFrom (includes c.args.types) usual_limits (packed HEAD_LIMIT) c.args.name.now r
     c.in-Ok-line_of.captured) e.moves (rw c.in-Ok.is at read.ensures.rest) e.place e.closes
-    (rw c.in-Ok-line_of.ensures.answers (captured_there (includes c.args.types) c.args.name.now c.args.opened.head place _ _ _
-    holds.reads (rw c.in-Ok.is at read.ensures.parts)))
+    (rw c.in-Ok-line_of.ensures.answers (captured_there (includes c.args.types) c.args.name.now c.args.opened.head
+    place _ _ _ holds.reads (rw c.in-Ok.is at read.ensures.parts)))
 
 pub returns-in-Err-line_of-clause-takes : goal.returns-in-Err-line_of-clause-takes
 returns-in-Err-line_of-clause-takes g c = λ bytes holds.
@@ -39,7 +39,8 @@ returns-in-Err-line_of-clause-takes g c = λ bytes holds.
     (taken c.args.members.source) (taken mid.source) (taken c.end_record.new.members.source) read.new.reader.held _
     holds read.ensures.reads place
     (λ r. IsCaptureFrom (includes c.args.types) usual_limits (packed HEAD_LIMIT) c.args.name.now r
-    (option_map (entry_from place c.args.name.now) c.in-Ok.parts)) e.moves (rw c.in-Ok.is at read.ensures.rest) e.place e.closes
+    (option_map (entry_from place c.args.name.now) c.in-Ok.parts)) e.moves (rw c.in-Ok.is at read.ensures.rest)
+    e.place e.closes
     (captured_there (includes c.args.types) c.args.name.now c.args.opened.head place _ _ _ holds.reads
     (rw c.in-Ok.is at read.ensures.parts))) c.in-Err-line_of.ensures.answers
 

@@ -15,7 +15,8 @@ returns-in-Ok-clause-next g c =
     let stands = rw (c.in-Ok-Some.is, c.in-Ok-Some.field-0-is) at o.ensures.stands in
     taken_comes c.args.members.source.passed c.in-Ok-Some.opened (left_of mid) (taken mid.source)
     (prepend_known o.new.reader.held (text_of (left_of mid))) (file_ahead (taken t.result.members.source)) Judged
-    (λ j. j.0) (λ j r. j.1 ≡ verdict_in r) (file_ahead (taken c.args.members.source)) c.in-Ok.judged t.result.members.source.passed
+    (λ j. j.0) (λ j r. j.1 ≡ verdict_in r) (file_ahead (taken c.args.members.source)) c.in-Ok.judged
+    t.result.members.source.passed
     (rw (c.in-Ok-Some.is, c.in-Ok-Some.field-0-is) at o.ensures.opens) (rw c.in-Ok.is at t.ensures.takes)
     stands.follows stands.opens.begins.start_is (rw c.in-Ok.is at t.ensures.further)
     t.result.members.source.within (rw c.in-Ok.is at t.ensures.placed)
