@@ -1,8 +1,10 @@
 -- The record of a member of a compressed archive, as it is fetched.
 use Rattle.index_core.proofs.Words.{◌≡◌, ◌∙◌, ℕ, ◌+◌, ◌-◌, ◌<◌, ◌≤◌, inl, inr, List, [], ◌∷◌, ◌++◌, Option}
-use Rattle.index_core.proofs.Words.{◌^◌, None, Some, Result, Ok, Err, IfSome, length, take, drop, refl, sym, ap, subst, arith}
+use Rattle.index_core.proofs.Words.{◌^◌, None, Some, Result, Ok, Err, IfSome, length, take, drop, refl}
+use Rattle.index_core.proofs.Words.{sym, ap, subst, arith}
 use Rattle.index_core.proofs.Words.{Appends, Cause, Fault, AppendsPrefix, HeadView, record_length, Reads, Archive}
-use Rattle.index_core.proofs.Words.{IndexFault, HEAD_LIMIT, append-nil, length-append, read-spelled, record-whole, prepend_known, after_record}
+use Rattle.index_core.proofs.Words.{IndexFault, HEAD_LIMIT, append-nil, length-append, read-spelled, record-whole}
+use Rattle.index_core.proofs.Words.{prepend_known, after_record}
 use Rattle.std.proofs.Common.{true, false, nat_lt, option_map}
 use Rattle.std.proofs.lemmas.List.{take-append-drop, take_all}
 use Rattle.devices.proofs.WritingLemmas.{prefix_longer, wrote_nothing}
@@ -46,7 +48,8 @@ written_most (Err c) text w u p = p
 wrote_all : (n : ℕ) (front text : List ℕ) (w u : Option (List ℕ)) → Appends w u front → front ≡ take n text
     → AppendsPrefix w u text
 wrote_all n front text w u a e =
-    (drop n text, record { front = front; whole = sym (take-append-drop n text) ∙ ap (λ l. l ++ drop n text) (sym e); grown = a })
+    let whole = sym (take-append-drop n text) ∙ ap (λ l. l ++ drop n text) (sym e) in
+    (drop n text, record { front = front; whole = whole; grown = a })
 
 -- a record's text, or its front, is in front of what it was read from
 record_written : (h : HeadView) (r : Result ℕ IndexFault) (text : List ℕ) (mid after w u : Option (List ℕ))
@@ -164,9 +167,11 @@ module _ (start : ℕ) (bytes : List ℕ) (h : HeadView) (left left' : Option Le
   module _ (n : ℕ) (place : Place) (moves : Moves mid new)
       (c : CopiesRecord h (Ok n) before (prepend_known held (text_of left')) w u)
       (at : place ≡ record { offset = start; length = new.passed - start })
-      (closes : IfSome left' (λ l. ClosesTo {A = Place} (closed_by (Ok true) (nat_lt 0 (length held)) l) (Ok place) new.ahead))
+      (closes : IfSome left'
+      (λ l. ClosesTo {A = Place} (closed_by (Ok true) (nat_lt 0 (length held)) l) (Ok place) new.ahead))
     where
-      read : Reads (record_at HEAD_LIMIT 0) (Ok (Some h)) (text_of (Some (member_in bytes))) (prepend_known held (text_of left'))
+      read : Reads (record_at HEAD_LIMIT 0) (Ok (Some h)) (text_of (Some (member_in bytes)))
+          (prepend_known held (text_of left'))
       read = record-whole HEAD_LIMIT 0 (text_of (Some (member_in bytes))) before (prepend_known held (text_of left')) h
           opened.reads c.ends.2
 
@@ -199,7 +204,8 @@ module _ (start : ℕ) (bytes : List ℕ) (h : HeadView) (left left' : Option Le
           let text = found.0 in
           let reads : Reads (next_at HEAD_LIMIT 0) (Ok (Some h)) (Some text) before =
           subst (λ known. Reads (next_at HEAD_LIMIT 0) (Ok (Some h)) known before) found.3 opened.reads in
-          let k = next_copied HEAD_LIMIT 0 h (Ok n) (Some text) before (prepend_known held (text_of left')) w u reads zero c in
+          let after = prepend_known held (text_of left') in
+          let k = next_copied HEAD_LIMIT 0 h (Ok n) (Some text) before after w u reads zero c in
           let whole = holds_read bytes found.2.head text found.1 found.3 found.2.holds in
           let same : k.0 ≡ text = k.3.3 ∙ takes_whole k.3.0 found.2.head text k.3.1 k.3.2 whole in (
             text,
@@ -219,26 +225,31 @@ module _ (start : ℕ) (bytes : List ℕ) (h : HeadView) (left left' : Option Le
     -- the record was read, and its member is at fault, or more follows
     pub member_stopped : (n : ℕ) (f : Fault) → f.offset ≡ start
         → CopiesRecord h (Ok n) before (prepend_known held (text_of left')) w u
-        → IfSome left' (λ l. ClosesTo {A = Place} (closed_by (Ok true) (nat_lt 0 (length held)) l) (Err f.cause) new.ahead)
+        → IfSome left'
+        (λ l. ClosesTo {A = Place} (closed_by (Ok true) (nat_lt 0 (length held)) l) (Err f.cause) new.ahead)
         → FetchesMember HEAD_LIMIT asked start (Some bytes) (Err (faults.Capture (Archive f))) w u
     member_stopped n f at c closes = (
       at,
       (
-        member_fault_is start bytes opened.begins f at (member_fails start bytes h left left' old mid new held before opened
+        member_fault_is start bytes opened.begins f at
+            (member_fails start bytes h left left' old mid new held before opened
             on f at c.ends.2 closes),
         writes_record (Ok n) (prepend_known held (text_of left')) c,
       ),
     )
 
     -- the record was not read
-    pub record_stopped : (fault : IndexFault) (cause : Cause) (f : Fault) → f.offset ≡ start → cause_in fault ≡ Some cause
+    pub record_stopped : (fault : IndexFault) (cause : Cause) (f : Fault) → f.offset ≡ start
+        → cause_in fault ≡ Some cause
         → CopiesRecord h (Err fault) before (prepend_known held (text_of left')) w u
-        → IfSome left' (λ l. ClosesTo {A = Unit {0}} (closed_by (Err cause) (nat_lt 0 (length held)) l) (Err f.cause) new.ahead)
+        → IfSome left'
+        (λ l. ClosesTo {A = Unit {0}} (closed_by (Err cause) (nat_lt 0 (length held)) l) (Err f.cause) new.ahead)
         → FetchesMember HEAD_LIMIT asked start (Some bytes) (Err (faults.Capture (Archive f))) w u
     record_stopped fault cause f at is c closes = (
       at,
       (
-        member_fault_is start bytes opened.begins f at (record_fails start bytes h left left' old mid new held before opened
+        member_fault_is start bytes opened.begins f at
+            (record_fails start bytes h left left' old mid new held before opened
             on cause f at (read_to h fault cause before (prepend_known held (text_of left')) w u is c) closes),
         writes_record (Err fault) (prepend_known held (text_of left')) c,
       ),
@@ -247,7 +258,8 @@ module _ (start : ℕ) (bytes : List ℕ) (h : HeadView) (left left' : Option Le
 -- ---- by what is known of the file
 
 module _ (asked : Option ℕ) (start : ℕ) (w u : Option (List ℕ)) where
-  pub output_stopped : (h : HeadView) (fault : IndexFault) (known before after : Option (List ℕ)) → cause_in fault ≡ None
+  pub output_stopped : (h : HeadView) (fault : IndexFault) (known before after : Option (List ℕ))
+      → cause_in fault ≡ None
       → CopiesRecord h (Err fault) before after w u → IfSome known (λ bytes. WritesOfMember HEAD_LIMIT bytes w u)
       → FetchesMember HEAD_LIMIT asked start known (Err fault) w u
   output_stopped h faults.Write known before after is c k = k

@@ -42,15 +42,16 @@ module _ (limit : ℕ) (bytes : List ℕ) where
   -- why none of them is read as a record
   abbrev pub IsMemberFault : Cause → Type 0
   IsMemberFault cause = (cause ≡ causes.Memory) ⊎ ((cause ≡ causes.Read) ⊎ ((begins_member bytes ≡ Ok true
-      × (member_holds limit bytes ≡ Err cause)) ⊎ ((fault : _) × (begins_member bytes ≡ Err fault) × (cause ≡ member_cause fault))))
+      × (member_holds limit bytes ≡ Err cause)) ⊎ ((fault : _) × (begins_member bytes ≡ Err fault)
+      × (cause ≡ member_cause fault))))
 
   -- at most the text of their member is written, where that has one
   abbrev pub WritesOfMember : Option (List ℕ) → Option (List ℕ) → Type 0
   WritesOfMember before after = (text behind : List ℕ) → member_in bytes ≡ Ok (text, behind)
       → AppendsPrefix before after text
 
--- What a call has written that fetches the record of the member at an offset, of a length or of any, and what it says of
--- the bytes from there on where they are known. What precedes the offset isn't judged.
+-- What a call has written that fetches the record of the member at an offset, of a length or of any, and what it says
+-- of the bytes from there on where they are known. What precedes the offset isn't judged.
 abbrev pub FetchesMember : ℕ → Option ℕ → ℕ → Option (List ℕ) → Result ℕ IndexFault → Option (List ℕ)
     → Option (List ℕ) → Type 0
 FetchesMember limit asked offset known (Ok n) before after =

@@ -20,7 +20,8 @@ returns-then-has_length-clause-fetches g c = λ known k.
     by_known _ (λ known. FetchesMember HEAD_LIMIT c.args.asked c.args.start known (Ok c.in-Ok.length) w u) known
     (copied.wrote.front, copied.ends.0, copied.wrote.grown, tt)
     (λ bytes holds. record_fetched c.args.start bytes c.args.head.now (left_of c.args.members) (left_of mid)
-    (taken c.args.members.source) (taken mid.source) (taken c.end_record.new.members.source) read.new.reader.held _ w u holds
+    (taken c.args.members.source) (taken mid.source) (taken c.end_record.new.members.source)
+    read.new.reader.held _ w u holds
     read.ensures.on c.requires.opens.begins.start_is c.in-Ok.length
     c.in-Ok-end_record.place e.moves copied e.place e.closes c.args.asked has)
     k
@@ -37,7 +38,8 @@ returns-else-has_length-clause-fetches g c = λ known k.
     by_known _ (λ known. FetchesMember HEAD_LIMIT c.args.asked c.args.start known (Err faults.NoRecord) w u) known
     tt
     (λ bytes holds. record_unasked c.args.start bytes c.args.head.now (left_of c.args.members) (left_of mid)
-    (taken c.args.members.source) (taken mid.source) (taken c.end_record.new.members.source) read.new.reader.held _ w u holds
+    (taken c.args.members.source) (taken mid.source) (taken c.end_record.new.members.source)
+    read.new.reader.held _ w u holds
     read.ensures.on c.requires.opens.begins.start_is c.in-Ok.length
     c.in-Ok-end_record.place e.moves copied e.place e.closes c.args.asked other)
     k
@@ -55,7 +57,8 @@ returns-in-Err-end_record-clause-fetches g c = λ known k.
     (λ known. FetchesMember HEAD_LIMIT c.args.asked c.args.start known (Err (faults.Capture (Archive f))) w u) known
     (e.at, tt)
     (λ bytes holds. member_stopped c.args.start bytes c.args.head.now (left_of c.args.members) (left_of mid)
-    (taken c.args.members.source) (taken mid.source) (taken c.end_record.new.members.source) read.new.reader.held _ w u holds
+    (taken c.args.members.source) (taken mid.source) (taken c.end_record.new.members.source)
+    read.new.reader.held _ w u holds
     read.ensures.on c.requires.opens.begins.start_is c.args.asked c.in-Ok.length f e.at
     copied e.closes)
     k)
