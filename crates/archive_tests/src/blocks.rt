@@ -1,11 +1,13 @@
 //! Archives whose blocks are skipped, in memory and in files.
+ghost use Rattle.index_core.specs.State.{IsUnread};
+
 mod faults;
 
 use crate::reports::settled;
 use capture_core::Types;
 use devices::{DeviceFault, FromFile, FromRead, Fuse, Gather, Input, Slice, SystemFile};
 use fixtures::{Refused, joined, repeated};
-use index_core::{Fetch, Indexer, PlainArchive, list};
+use index_core::{Archive, Fetch, Indexer, PlainArchive, list};
 use std::alloc::{AllocError, Global};
 use std::fs::{self, File, Files};
 use std::io::Cursor;
@@ -95,24 +97,28 @@ impl<I: Input> Input for Counted<I> {
 }
 
 /// Returns `true` if the listing is these lines, with this result.
-fn lists<I: Input>(
+fn lists<A: Archive>(
     alloc: Global,
-    archive: &mut PlainArchive<I>,
+    archive: &mut A,
     lines: &[u8],
     wanted: Result<u64, Fault>,
-) -> Result<bool, Refused> {
+) -> Result<bool, Refused>
+    requires { IsUnread (A.state archive.old) }
+{
     let mut out = Gather::new(alloc);
     let answer = settled(list(archive, &mut out))?;
     Ok(answer == wanted && out.bytes() == lines)
 }
 
 /// Returns `true` if the index is these lines, with this result of reading the archive.
-fn indexes<I: Input>(
+fn indexes<A: Archive>(
     alloc: Global,
-    archive: &mut PlainArchive<I>,
+    archive: &mut A,
     lines: &[u8],
     wanted: Result<u64, Fault>,
-) -> Result<bool, Refused> {
+) -> Result<bool, Refused>
+    requires { IsUnread (A.state archive.old) }
+{
     let mut indexer = Indexer::new(alloc, Types::usual());
     let mut out = Gather::new(alloc);
     let added = settled(indexer.add("a.warc", archive))?;
