@@ -13,7 +13,10 @@ pub fn in_memory<'a>(
     alloc: Global,
     name: &str,
     bytes: &'a [u8],
-) -> Result<Named<PlainArchive<Slice<'a>>>, AllocError> {
+) -> Result<Named<PlainArchive<Slice<'a>>>, AllocError>
+    ensures { IfOk result (λ n.
+        IsUnread (⟦<PlainArchive<Slice<'a>> as Archive>⟧.state n.archive)) }
+{
     Ok(Named {
         name: String::from_str(alloc, name)?,
         archive: PlainArchive::new(alloc, Slice::new(bytes)),

@@ -1,4 +1,8 @@
 //! Scans whose archives or output fail, and those of many archives.
+ghost use Rattle.std.specs.Prelude.{IfOk};
+ghost use Rattle.std.specs.List.{AllByRecursion};
+ghost use Rattle.scan_core.specs.State.{IsUnread};
+
 use crate::runs::{Devices, PAGED, PAGES, SOUND, scanned, with_memory};
 use capture_core::{CaptureFault, Types};
 use devices::{Fuse, Gather, Slice};
@@ -107,7 +111,13 @@ fn scans_end_where_their_output_fails(rt: HostRuntime) -> Result<(), Fail> {
 }
 
 /// Returns archives of one resource each, with numbers as names.
-fn numbered(alloc: Global, count: usize) -> Result<Vec<Named<PlainArchive<Fuse<Slice<'static>>>>>, Fail> {
+fn numbered(
+    alloc: Global,
+    count: usize,
+) -> Result<Vec<Named<PlainArchive<Fuse<Slice<'static>>>>>, Fail>
+    ensures { IfOk result (λ inputs. AllByRecursion (λ n.
+        IsUnread (⟦<PlainArchive<Fuse<Slice<'static>>> as index_core::Archive>⟧.state n.archive)) inputs.items) }
+{
     let mut inputs = Vec::new(alloc);
     for i in 0..count {
         inputs.push(Named {

@@ -1,4 +1,8 @@
 //! Runs of scans, over archives in memory and devices that may fail.
+ghost use Rattle.std.specs.Prelude.{IfOk};
+ghost use Rattle.std.specs.List.{AllByRecursion};
+ghost use Rattle.scan_core.specs.State.{IsUnread};
+
 use capture_core::{CaptureFault, Types};
 use devices::{Fuse, Gather, Slice};
 use fixtures::{RESOURCE, RESPONSE, Refused, joined};
@@ -76,7 +80,10 @@ fn inputs<'a>(
     archives: &[Archive],
     texts: &'a [Vec<u8>],
     devices: Devices,
-) -> Result<Vec<Named<PlainArchive<Fuse<Slice<'a>>>>>, AllocError> {
+) -> Result<Vec<Named<PlainArchive<Fuse<Slice<'a>>>>>, AllocError>
+    ensures { IfOk result (λ inputs. AllByRecursion (λ n.
+        IsUnread (⟦<PlainArchive<Fuse<Slice<'a>>> as index_core::Archive>⟧.state n.archive)) inputs.items) }
+{
     let mut inputs = Vec::new(alloc);
     for (i, ((name, _pieces), text)) in archives.iter().zip(texts).enumerate() {
         let at = if i == devices.archive {
