@@ -1,0 +1,171 @@
+//! Compressed archives whose input fails at one of its reads.
+use crate::answers::{indexes, lists, verifies};
+use crate::indexes::BOTH;
+use crate::members::{EMPTY_MEMBER, RESOURCE_MEMBER, RESPONSE_MEMBER};
+use devices::{Fuse, Slice};
+use fixtures::{Refused, joined};
+use index_core::{Cause, Fault, PackedArchive, open};
+use std::alloc::Global;
+
+/// Returns where the record begins that is read at a byte, in a response of 207 bytes and a
+/// resource of 165. Behind them the end is looked for.
+fn record_of_byte(byte: u64) -> u64 {
+    match byte {
+        0..=206 => 0,
+        207..=371 => 207,
+        _ => 372,
+    }
+}
+
+/// Returns the lines of the listing of the records before an offset, with the fault of a read
+/// there.
+fn listing(offset: u64) -> &'static [u8] {
+    match offset {
+        0 => b"fault 0 Read\n",
+        207 => b"0 207 response\nfault 207 Read\n",
+        _ => b"0 207 response\n207 165 resource\nfault 372 Read\n",
+    }
+}
+
+/// The same of a verification.
+fn verdicts(offset: u64) -> &'static [u8] {
+    match offset {
+        0 => b"fault 0 Read\n",
+        207 => b"0 absent\nfault 207 Read\n",
+        _ => b"0 absent\n207 absent\nfault 372 Read\n",
+    }
+}
+
+/// Returns `true` if the listing ends at this call, which fails while the record is read that
+/// begins at the offset.
+fn listing_ends(
+    alloc: Global,
+    archive: &[u8],
+    (piece, call): (usize, u64),
+    offset: u64,
+) -> Result<bool, Refused> {
+    let cause = Cause::Read;
+    let fault = Fault { offset, cause };
+    let input = Fuse::new(Slice::new(archive), piece, call);
+    let mut listed = PackedArchive::new(alloc, input);
+    lists(alloc, &mut listed, listing(offset), Err(fault))
+}
+
+/// Returns `true` if each report on the archive, read one byte a call, ends at this call, which
+/// fails while the record is read that begins at the offset.
+fn ends_at_call(alloc: Global, archive: &[u8], call: u64, offset: u64) -> Result<bool, Refused> {
+    let cause = Cause::Read;
+    let fault = Fault { offset, cause };
+    let input = || Fuse::new(Slice::new(archive), 1, call);
+    let mut verified = PackedArchive::new(alloc, input());
+    let mut indexed = PackedArchive::new(alloc, input());
+    Ok(
+        listing_ends(alloc, archive, (1, call), offset)?
+            && verifies(alloc, &mut verified, verdicts(offset), Err(fault))?
+            && indexes(alloc, &mut indexed, BOTH, Err(fault))?,
+    )
+}
+
+/// At one byte a call, the call `n` reads the byte before `n`, counted from 0.
+#[test]
+fn a_listing_ends_at_a_failed_read_of_any_byte(rt: HostRuntime) -> Result<(), Refused> {
+    let archive = joined(rt.alloc(), &[RESPONSE_MEMBER, RESOURCE_MEMBER])?;
+    for byte in 0..373 {
+        let offset = record_of_byte(byte);
+        assert!(rt;
+            listing_ends(rt.alloc(), &archive, (1, byte + 1), offset)?,
+            "{byte}"
+        );
+    }
+    Ok(())
+}
+
+/// At these bytes a header, a block or a trailer begins or ends.
+#[test]
+fn each_report_ends_at_a_failed_read(rt: HostRuntime) -> Result<(), Refused> {
+    let archive = joined(rt.alloc(), &[RESPONSE_MEMBER, RESOURCE_MEMBER])?;
+    for byte in [
+        0, 1, 2, 9, 10, 11, 100, 198, 199, 205, 206, 207, 208, 216, 217, 218, 300, 363, 364, 370,
+        371, 372,
+    ] {
+        let offset = record_of_byte(byte);
+        assert!(rt;
+            ends_at_call(rt.alloc(), &archive, byte + 1, offset)?,
+            "{byte}"
+        );
+    }
+    Ok(())
+}
+
+/// A piece is read ahead while a record is read whose bytes may all be held. So the fault is at the
+/// record of the piece's first byte, or at one before.
+#[test]
+fn a_listing_ends_at_a_failed_read_of_a_piece(rt: HostRuntime) -> Result<(), Refused> {
+    let alloc = rt.alloc();
+    let archive = joined(alloc, &[RESPONSE_MEMBER, RESOURCE_MEMBER])?;
+    for (piece, calls) in [(50, 8), (100, 4), (207, 2), (300, 2), (1_000, 1)] {
+        for call in 0..calls + 1 {
+            let byte = if call == calls { 372 } else { call * piece };
+            let at = (piece as usize, call + 1);
+            let mut is_ended = listing_ends(alloc, &archive, at, 0)?;
+            if byte >= 207 && !is_ended {
+                is_ended = listing_ends(alloc, &archive, at, 207)?;
+            }
+            if byte == 372 && !is_ended {
+                is_ended = listing_ends(alloc, &archive, at, 372)?;
+            }
+            assert!(rt; is_ended, "{piece} {call}");
+        }
+    }
+    Ok(())
+}
+
+/// An empty member of 20 bytes is no record, and a read that fails in it is its fault.
+#[test]
+fn a_failed_read_in_a_member_without_a_record_has_its_offset(
+    rt: HostRuntime,
+) -> Result<(), Refused> {
+    let alloc = rt.alloc();
+    let archive = joined(alloc, &[EMPTY_MEMBER, EMPTY_MEMBER, RESOURCE_MEMBER])?;
+    let cause = Cause::Read;
+    for (call, offset, lines) in [
+        (1, 0, b"fault 0 Read\n".as_slice()),
+        (20, 0, b"fault 0 Read\n".as_slice()),
+        (21, 20, b"fault 20 Read\n".as_slice()),
+        (40, 20, b"fault 20 Read\n".as_slice()),
+        (41, 40, b"fault 40 Read\n".as_slice()),
+        (205, 40, b"fault 40 Read\n".as_slice()),
+        (206, 205, b"40 165 resource\nfault 205 Read\n".as_slice()),
+    ] {
+        let input = Fuse::new(Slice::new(&archive), 1, call);
+        let mut listed = PackedArchive::new(alloc, input);
+        assert!(rt;
+            lists(alloc, &mut listed, lines, Err(Fault { offset, cause }))?,
+            "{call}"
+        );
+    }
+    Ok(())
+}
+
+/// A call that fails is the first or the second, which see how the archive keeps its records, or a
+/// later one.
+#[test]
+fn an_archive_that_is_opened_ends_at_a_failed_read(rt: HostRuntime) -> Result<(), Refused> {
+    let archive = joined(rt.alloc(), &[RESPONSE_MEMBER, RESOURCE_MEMBER])?;
+    let cause = Cause::Read;
+    for call in [1, 2, 3, 4, 206, 207, 208, 209, 371, 372, 373] {
+        let offset = record_of_byte(call - 1);
+        let fault = Fault { offset, cause };
+        let mut listed = open(rt.alloc(), Fuse::new(Slice::new(&archive), 1, call));
+        let mut indexed = open(rt.alloc(), Fuse::new(Slice::new(&archive), 1, call));
+        assert!(rt;
+            lists(rt.alloc(), &mut listed, listing(offset), Err(fault))?,
+            "{call}"
+        );
+        assert!(rt;
+            indexes(rt.alloc(), &mut indexed, BOTH, Err(fault))?,
+            "{call}"
+        );
+    }
+    Ok(())
+}
