@@ -3,7 +3,8 @@ ghost use Rattle.archives.specs.State.{IsUnread};
 
 use fixtures::{Refused, cut};
 use index_core::{
-    Archive, CaptureFault, Cause, Fault, Gather, IndexFault, Indexer, Types, Verified, list, verify,
+    Archive, CaptureFault, Cause, Fault, Gather, IndexFault, Indexer, Input, PackedArchive, Types,
+    Verified, list, open, verify,
 };
 use std::alloc::{AllocError, Global};
 
@@ -57,7 +58,7 @@ fn settled<T: Copy>(
 }
 
 /// Returns `true` if the archive's listing is these lines, with this result.
-pub fn lists<A: Archive>(
+fn lists<A: Archive>(
     alloc: Global,
     archive: &mut A,
     lines: &[u8],
@@ -72,7 +73,7 @@ pub fn lists<A: Archive>(
 }
 
 /// Returns `true` if the archive's verification is these lines, with this result.
-pub fn verifies<A: Archive>(
+fn verifies<A: Archive>(
     alloc: Global,
     archive: &mut A,
     lines: &[u8],
@@ -122,7 +123,7 @@ pub fn writes(
 
 /// Returns `true` if adding the archive has this result, and the index is then the lines of the
 /// records before the fault.
-pub fn indexes<A: Archive>(
+fn indexes<A: Archive>(
     alloc: Global,
     archive: &mut A,
     lines: &[(u64, &[u8])],
@@ -148,4 +149,70 @@ pub fn indexes<A: Archive>(
         return Err(Refused::Memory);
     }
     Ok(is_answer && is_written)
+}
+
+/// The same as `lists`, of a compressed archive over the input.
+pub fn packed_lists<I: Input + Drop>(
+    alloc: Global,
+    input: I,
+    lines: &[u8],
+    wanted: Result<u64, Fault>,
+) -> Result<bool, Refused> {
+    let mut archive = PackedArchive::new(alloc, input);
+    lists(alloc, &mut archive, lines, wanted)
+}
+
+/// The same as `lists`, of an archive of either form over the input.
+pub fn opened_lists<I: Input + Drop>(
+    alloc: Global,
+    input: I,
+    lines: &[u8],
+    wanted: Result<u64, Fault>,
+) -> Result<bool, Refused> {
+    let mut archive = open(alloc, input);
+    lists(alloc, &mut archive, lines, wanted)
+}
+
+/// The same as `verifies`, of a compressed archive over the input.
+pub fn packed_verifies<I: Input + Drop>(
+    alloc: Global,
+    input: I,
+    lines: &[u8],
+    wanted: Result<Verified, Fault>,
+) -> Result<bool, Refused> {
+    let mut archive = PackedArchive::new(alloc, input);
+    verifies(alloc, &mut archive, lines, wanted)
+}
+
+/// The same as `verifies`, of an archive of either form over the input.
+pub fn opened_verifies<I: Input + Drop>(
+    alloc: Global,
+    input: I,
+    lines: &[u8],
+    wanted: Result<Verified, Fault>,
+) -> Result<bool, Refused> {
+    let mut archive = open(alloc, input);
+    verifies(alloc, &mut archive, lines, wanted)
+}
+
+/// The same as `indexes`, of a compressed archive over the input.
+pub fn packed_indexes<I: Input + Drop>(
+    alloc: Global,
+    input: I,
+    lines: &[(u64, &[u8])],
+    wanted: Result<u64, Fault>,
+) -> Result<bool, Refused> {
+    let mut archive = PackedArchive::new(alloc, input);
+    indexes(alloc, &mut archive, lines, wanted)
+}
+
+/// The same as `indexes`, of an archive of either form over the input.
+pub fn opened_indexes<I: Input + Drop>(
+    alloc: Global,
+    input: I,
+    lines: &[(u64, &[u8])],
+    wanted: Result<u64, Fault>,
+) -> Result<bool, Refused> {
+    let mut archive = open(alloc, input);
+    indexes(alloc, &mut archive, lines, wanted)
 }

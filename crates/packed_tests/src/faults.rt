@@ -1,10 +1,10 @@
 //! Compressed archives whose input fails at one of its reads.
-use crate::answers::{indexes, lists, verifies};
+use crate::answers::{opened_indexes, opened_lists, packed_indexes, packed_lists, packed_verifies};
 use crate::indexes::BOTH;
 use crate::members::{EMPTY_MEMBER, RESOURCE_MEMBER, RESPONSE_MEMBER};
 use devices::{Fuse, Slice};
 use fixtures::{Refused, joined};
-use index_core::{Cause, Fault, PackedArchive, open};
+use index_core::{Cause, Fault};
 use std::alloc::Global;
 
 /// Returns where the record begins that is read at a byte, in a response of 207 bytes and a
@@ -47,8 +47,7 @@ fn listing_ends(
     let cause = Cause::Read;
     let fault = Fault { offset, cause };
     let input = Fuse::new(Slice::new(archive), piece, call);
-    let mut listed = PackedArchive::new(alloc, input);
-    lists(alloc, &mut listed, listing(offset), Err(fault))
+    packed_lists(alloc, input, listing(offset), Err(fault))
 }
 
 /// Returns `true` if each report on the archive, read one byte a call, ends at this call, which
@@ -57,12 +56,10 @@ fn ends_at_call(alloc: Global, archive: &[u8], call: u64, offset: u64) -> Result
     let cause = Cause::Read;
     let fault = Fault { offset, cause };
     let input = || Fuse::new(Slice::new(archive), 1, call);
-    let mut verified = PackedArchive::new(alloc, input());
-    let mut indexed = PackedArchive::new(alloc, input());
     Ok(
         listing_ends(alloc, archive, (1, call), offset)?
-            && verifies(alloc, &mut verified, verdicts(offset), Err(fault))?
-            && indexes(alloc, &mut indexed, BOTH, Err(fault))?,
+            && packed_verifies(alloc, input(), verdicts(offset), Err(fault))?
+            && packed_indexes(alloc, input(), BOTH, Err(fault))?,
     )
 }
 
@@ -97,16 +94,25 @@ fn each_report_ends_at_a_failed_read(rt: HostRuntime) -> Result<(), Refused> {
     Ok(())
 }
 
+/// Lengths of pieces, and the bytes at which they start. The last call looks for the end.
+const PIECES: &[(usize, &[u64])] = &[
+    (50, &[0, 50, 100, 150, 200, 250, 300, 350, 372]),
+    (100, &[0, 100, 200, 300, 372]),
+    (207, &[0, 207, 372]),
+    (300, &[0, 300, 372]),
+    (1_000, &[0, 372]),
+];
+
 /// A piece is read ahead while a record is read whose bytes may all be held. So the fault is at the
 /// record of the piece's first byte, or at one before.
 #[test]
 fn a_listing_ends_at_a_failed_read_of_a_piece(rt: HostRuntime) -> Result<(), Refused> {
     let alloc = rt.alloc();
     let archive = joined(alloc, &[RESPONSE_MEMBER, RESOURCE_MEMBER])?;
-    for (piece, calls) in [(50, 8), (100, 4), (207, 2), (300, 2), (1_000, 1)] {
-        for call in 0..calls + 1 {
-            let byte = if call == calls { 372 } else { call * piece };
-            let at = (piece as usize, call + 1);
+    for (piece, starts) in PIECES {
+        for (number, start) in starts.iter().enumerate() {
+            let byte = *start;
+            let at = (*piece, number as u64 + 1);
             let mut is_ended = listing_ends(alloc, &archive, at, 0)?;
             if byte >= 207 && !is_ended {
                 is_ended = listing_ends(alloc, &archive, at, 207)?;
@@ -114,11 +120,23 @@ fn a_listing_ends_at_a_failed_read_of_a_piece(rt: HostRuntime) -> Result<(), Ref
             if byte == 372 && !is_ended {
                 is_ended = listing_ends(alloc, &archive, at, 372)?;
             }
-            assert!(rt; is_ended, "{piece} {call}");
+            assert!(rt; is_ended, "{piece} {byte}");
         }
     }
     Ok(())
 }
+
+/// Calls that fail in two empty members of 20 bytes and a resource of 165, with the offsets and
+/// lines at which the listing ends.
+const FAILED_CALLS: &[(u64, u64, &[u8])] = &[
+    (1, 0, b"fault 0 Read\n"),
+    (20, 0, b"fault 0 Read\n"),
+    (21, 20, b"fault 20 Read\n"),
+    (40, 20, b"fault 20 Read\n"),
+    (41, 40, b"fault 40 Read\n"),
+    (205, 40, b"fault 40 Read\n"),
+    (206, 205, b"40 165 resource\nfault 205 Read\n"),
+];
 
 /// An empty member of 20 bytes is no record, and a read that fails in it is its fault.
 #[test]
@@ -128,19 +146,11 @@ fn a_failed_read_in_a_member_without_a_record_has_its_offset(
     let alloc = rt.alloc();
     let archive = joined(alloc, &[EMPTY_MEMBER, EMPTY_MEMBER, RESOURCE_MEMBER])?;
     let cause = Cause::Read;
-    for (call, offset, lines) in [
-        (1, 0, b"fault 0 Read\n".as_slice()),
-        (20, 0, b"fault 0 Read\n".as_slice()),
-        (21, 20, b"fault 20 Read\n".as_slice()),
-        (40, 20, b"fault 20 Read\n".as_slice()),
-        (41, 40, b"fault 40 Read\n".as_slice()),
-        (205, 40, b"fault 40 Read\n".as_slice()),
-        (206, 205, b"40 165 resource\nfault 205 Read\n".as_slice()),
-    ] {
-        let input = Fuse::new(Slice::new(&archive), 1, call);
-        let mut listed = PackedArchive::new(alloc, input);
+    for (call, offset, lines) in FAILED_CALLS {
+        let input = Fuse::new(Slice::new(&archive), 1, *call);
+        let offset = *offset;
         assert!(rt;
-            lists(alloc, &mut listed, lines, Err(Fault { offset, cause }))?,
+            packed_lists(alloc, input, lines, Err(Fault { offset, cause }))?,
             "{call}"
         );
     }
@@ -156,14 +166,22 @@ fn an_archive_that_is_opened_ends_at_a_failed_read(rt: HostRuntime) -> Result<()
     for call in [1, 2, 3, 4, 206, 207, 208, 209, 371, 372, 373] {
         let offset = record_of_byte(call - 1);
         let fault = Fault { offset, cause };
-        let mut listed = open(rt.alloc(), Fuse::new(Slice::new(&archive), 1, call));
-        let mut indexed = open(rt.alloc(), Fuse::new(Slice::new(&archive), 1, call));
         assert!(rt;
-            lists(rt.alloc(), &mut listed, listing(offset), Err(fault))?,
+            opened_lists(
+                rt.alloc(),
+                Fuse::new(Slice::new(&archive), 1, call),
+                listing(offset),
+                Err(fault)
+            )?,
             "{call}"
         );
         assert!(rt;
-            indexes(rt.alloc(), &mut indexed, BOTH, Err(fault))?,
+            opened_indexes(
+                rt.alloc(),
+                Fuse::new(Slice::new(&archive), 1, call),
+                BOTH,
+                Err(fault)
+            )?,
             "{call}"
         );
     }

@@ -1,5 +1,5 @@
 //! Indexes of compressed archives.
-use crate::answers::{IndexLines, indexes, writes};
+use crate::answers::{IndexLines, opened_indexes, packed_indexes, writes};
 use crate::further_members::{MAGIC_IN_BLOCK, REST_OF_RECORD};
 use crate::members::{
     CUT_RECORD, DAMAGED_MEMBER, EMPTY_MEMBER, FIXED_MEMBER, OTHER_VERSION, RESOURCE_MEMBER,
@@ -7,7 +7,7 @@ use crate::members::{
 };
 use devices::{Fuse, Slice};
 use fixtures::{RESOURCE, RESOURCE_LINE, RESPONSE, RESPONSE_LINE, Refused, cut, joined};
-use index_core::{Cause, Fault, IndexFault, Indexer, PackedArchive, Types, open};
+use index_core::{Cause, Fault, IndexFault, Indexer, Types, open};
 use std::alloc::Global;
 
 /// The response's line at offset 0, in a member of 207 bytes.
@@ -72,13 +72,10 @@ fn indexes_so(
         Ok(count) => Ok(count),
         Err((offset, cause)) => Err(Fault { offset, cause }),
     };
-    let mut whole = PackedArchive::new(alloc, Slice::new(archive));
-    let mut by_byte = PackedArchive::new(alloc, Fuse::new(Slice::new(archive), 1, 0));
-    let mut opened = open(alloc, Slice::new(archive));
     Ok(
-        indexes(alloc, &mut whole, lines, wanted)?
-            && indexes(alloc, &mut by_byte, lines, wanted)?
-            && indexes(alloc, &mut opened, lines, wanted)?,
+        packed_indexes(alloc, Slice::new(archive), lines, wanted)?
+            && packed_indexes(alloc, Fuse::new(Slice::new(archive), 1, 0), lines, wanted)?
+            && opened_indexes(alloc, Slice::new(archive), lines, wanted)?,
     )
 }
 
@@ -137,20 +134,23 @@ fn an_index_has_the_places_of_members(rt: HostRuntime) -> Result<(), Refused> {
     Ok(())
 }
 
+/// Lengths of the first bytes of both members, with the lines of their indexes and the results.
+const CUTS: &[(usize, IndexLines, Count)] = &[
+    (372, BOTH, Ok(2)),
+    (371, FIRST, Err((207, Cause::CutMember))),
+    (364, FIRST, Err((207, Cause::CutMember))),
+    (208, FIRST, Err((207, Cause::CutMember))),
+    (207, FIRST, Ok(1)),
+    (206, &[], Err((0, Cause::CutMember))),
+    (199, &[], Err((0, Cause::CutMember))),
+];
+
 #[test]
 fn the_capture_of_a_member_that_is_cut_is_not_kept(rt: HostRuntime) -> Result<(), Refused> {
     let archive = joined(rt.alloc(), &[RESPONSE_MEMBER, RESOURCE_MEMBER])?;
-    for (length, lines, answer) in [
-        (372, BOTH, Ok(2)),
-        (371, FIRST, Err((207, Cause::CutMember))),
-        (364, FIRST, Err((207, Cause::CutMember))),
-        (208, FIRST, Err((207, Cause::CutMember))),
-        (207, FIRST, Ok(1)),
-        (206, &[], Err((0, Cause::CutMember))),
-        (199, &[], Err((0, Cause::CutMember))),
-    ] {
+    for (length, lines, answer) in CUTS {
         assert!(rt;
-            indexes_so(rt.alloc(), cut(&archive, length), lines, answer)?,
+            indexes_so(rt.alloc(), cut(&archive, *length), lines, *answer)?,
             "{length}"
         );
     }

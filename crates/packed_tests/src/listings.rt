@@ -1,5 +1,5 @@
 //! Listings of compressed archives.
-use crate::answers::lists;
+use crate::answers::{opened_lists, packed_lists};
 use crate::blocks::{
     DISTANCE_BEFORE_TEXT, INCOMPLETE_CODE, NO_DISTANCE, NO_END, ONE_DISTANCE, REPEAT_FIRST,
     REPEAT_PAST_END, SYMBOL_286, TOO_MANY_LENGTHS,
@@ -11,7 +11,7 @@ use crate::members::{
 };
 use devices::{Fuse, Slice};
 use fixtures::{Refused, cut, joined};
-use index_core::{Cause, Fault, PackedArchive, open};
+use index_core::{Cause, Fault};
 use std::alloc::Global;
 
 /// The result of a listing: the number of records, or the fault.
@@ -28,15 +28,11 @@ fn count_or_fault(count: Count) -> Result<u64, Fault> {
 /// compressed archive and as one of either form.
 fn lists_so(alloc: Global, archive: &[u8], lines: &[u8], wanted: Count) -> Result<bool, Refused> {
     let wanted = count_or_fault(wanted);
-    let mut whole = PackedArchive::new(alloc, Slice::new(archive));
-    let mut by_byte = PackedArchive::new(alloc, Fuse::new(Slice::new(archive), 1, 0));
-    let mut opened = open(alloc, Slice::new(archive));
-    let mut opened_by_byte = open(alloc, Fuse::new(Slice::new(archive), 1, 0));
     Ok(
-        lists(alloc, &mut whole, lines, wanted)?
-            && lists(alloc, &mut by_byte, lines, wanted)?
-            && lists(alloc, &mut opened, lines, wanted)?
-            && lists(alloc, &mut opened_by_byte, lines, wanted)?,
+        packed_lists(alloc, Slice::new(archive), lines, wanted)?
+            && packed_lists(alloc, Fuse::new(Slice::new(archive), 1, 0), lines, wanted)?
+            && opened_lists(alloc, Slice::new(archive), lines, wanted)?
+            && opened_lists(alloc, Fuse::new(Slice::new(archive), 1, 0), lines, wanted)?,
     )
 }
 
@@ -241,8 +237,10 @@ fn an_archive_that_is_cut_at_any_byte_is_listed_to_its_cut(rt: HostRuntime) -> R
     for length in 0..373 {
         let (lines, answer) = cut_gives(length);
         let wanted = count_or_fault(answer);
-        let mut part = PackedArchive::new(rt.alloc(), Slice::new(cut(&archive, length)));
-        assert!(rt; lists(rt.alloc(), &mut part, lines, wanted)?, "{length}");
+        assert!(rt;
+            packed_lists(rt.alloc(), Slice::new(cut(&archive, length)), lines, wanted)?,
+            "{length}"
+        );
     }
     Ok(())
 }

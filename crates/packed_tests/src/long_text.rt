@@ -1,8 +1,8 @@
 //! A member whose text is long.
-use crate::answers::{indexes, lists};
+use crate::answers::{packed_indexes, packed_lists};
 use devices::{Fuse, Slice};
 use fixtures::{Refused, cut, joined, repeated};
-use index_core::{Cause, Fault, PackedArchive};
+use index_core::{Cause, Fault};
 use std::alloc::{AllocError, Global};
 
 /// The front of a member with fixed codes: the response, a zero, and a copy of it 258 times.
@@ -49,10 +49,15 @@ fn a_member_is_read_to_its_end_before_it_is_judged(rt: HostRuntime) -> Result<()
     let (offset, cause) = (0, Cause::SeveralRecords);
     let fault = Fault { offset, cause };
     let lines = b"fault 0 SeveralRecords\n";
-    let mut listed = PackedArchive::new(alloc, Slice::new(&archive));
-    assert!(rt; lists(alloc, &mut listed, lines, Err(fault))?);
-    let mut indexed = PackedArchive::new(alloc, Fuse::new(Slice::new(&archive), 5_000, 0));
-    assert!(rt; indexes(alloc, &mut indexed, &[], Err(fault))?);
+    assert!(rt; packed_lists(alloc, Slice::new(&archive), lines, Err(fault))?);
+    assert!(rt;
+        packed_indexes(
+            alloc,
+            Fuse::new(Slice::new(&archive), 5_000, 0),
+            &[],
+            Err(fault)
+        )?
+    );
     Ok(())
 }
 
@@ -63,8 +68,7 @@ fn a_long_member_that_is_cut_is_at_fault_itself(rt: HostRuntime) -> Result<(), R
     let archive = response_and_zeros(alloc)?;
     let (offset, cause) = (0, Cause::CutMember);
     let part = cut(&archive, 403_285);
-    let mut listed = PackedArchive::new(alloc, Slice::new(part));
     let lines = b"fault 0 CutMember\n";
-    assert!(rt; lists(alloc, &mut listed, lines, Err(Fault { offset, cause }))?);
+    assert!(rt; packed_lists(alloc, Slice::new(part), lines, Err(Fault { offset, cause }))?);
     Ok(())
 }

@@ -1,10 +1,10 @@
 //! Archives that are opened by their first bytes.
-use crate::answers::{IndexLines, indexes, lists, verifies};
+use crate::answers::{IndexLines, opened_indexes, opened_lists, opened_verifies};
 use crate::indexes::BOTH;
 use crate::members::{EMPTY_MEMBER, RESOURCE_MEMBER, RESPONSE_MEMBER};
 use devices::{Fuse, Slice};
 use fixtures::{RESOURCE, RESPONSE, Refused, joined};
-use index_core::{Cause, Fault, Verified, open};
+use index_core::{Cause, Fault, Verified};
 use std::alloc::Global;
 
 /// What the reports on an archive are.
@@ -128,13 +128,10 @@ fn gives_reports(
             (Err(Fault { offset, cause }), Err(Fault { offset, cause }))
         }
     };
-    let mut to_list = open(alloc, input());
-    let mut to_verify = open(alloc, input());
-    let mut to_index = open(alloc, input());
     Ok(
-        lists(alloc, &mut to_list, wanted.listing, count)?
-            && verifies(alloc, &mut to_verify, wanted.verdicts, verified)?
-            && indexes(alloc, &mut to_index, wanted.index, count)?,
+        opened_lists(alloc, input(), wanted.listing, count)?
+            && opened_verifies(alloc, input(), wanted.verdicts, verified)?
+            && opened_indexes(alloc, input(), wanted.index, count)?,
     )
 }
 

@@ -1,10 +1,10 @@
 //! Verdicts on the blocks of compressed archives.
-use crate::answers::verifies;
+use crate::answers::{opened_verifies, packed_verifies};
 use crate::further_members::{OTHER_ALGORITHM, OTHER_MEMBER, SAME_MEMBER};
 use crate::members::{DAMAGED_MEMBER, EMPTY_MEMBER, RESOURCE_MEMBER, RESPONSE_MEMBER, TWO_RECORDS};
 use devices::{Fuse, Slice};
 use fixtures::{Refused, joined};
-use index_core::{Cause, Fault, PackedArchive, Verified, open};
+use index_core::{Cause, Fault, Verified};
 use std::alloc::Global;
 
 /// The result of a verification: the numbers of records and of those that differ, or the fault.
@@ -22,13 +22,10 @@ fn verifies_so(
         Ok((records, differing)) => Ok(Verified { records, differing }),
         Err((offset, cause)) => Err(Fault { offset, cause }),
     };
-    let mut whole = PackedArchive::new(alloc, Slice::new(archive));
-    let mut by_byte = PackedArchive::new(alloc, Fuse::new(Slice::new(archive), 1, 0));
-    let mut opened = open(alloc, Slice::new(archive));
     Ok(
-        verifies(alloc, &mut whole, lines, wanted)?
-            && verifies(alloc, &mut by_byte, lines, wanted)?
-            && verifies(alloc, &mut opened, lines, wanted)?,
+        packed_verifies(alloc, Slice::new(archive), lines, wanted)?
+            && packed_verifies(alloc, Fuse::new(Slice::new(archive), 1, 0), lines, wanted)?
+            && opened_verifies(alloc, Slice::new(archive), lines, wanted)?,
     )
 }
 
