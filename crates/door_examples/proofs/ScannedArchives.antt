@@ -10,7 +10,7 @@ use Rattle.std.specs.Str.Lossy.{utf8_lossy, utf8_valid_len}
 use Rattle.form_urlencoded.specs.Form.{byte_serialize}
 use Rattle.json.specs.Print.{escape_byte}
 use Rattle.percent_encoding.specs.Percent.{percent_decode, percent_encode_byte}
-use Rattle.archives.specs.Packing.{Plain}
+use Rattle.index_core.specs.Packing.{Plain}
 use Rattle.cdxj_core.specs.declared.limit.TheConstants.{LINE_LIMIT}
 use Rattle.cdxj_core.specs.Entries.{HasLine}
 use Rattle.cdxj_core.specs.Members.{entry_member, member_place}

@@ -29,7 +29,7 @@ use Rattle.query_core.specs.Replies.{replies, reply_of}
 use Rattle.scan_core.specs.declared.fault.ScanFault.{ScanFault}
 use Rattle.scan_core.specs.Laws.{ScanIsOne}
 use Rattle.scan_core.specs.Scanning.{Scanned}
-use Rattle.archives.specs.State.{ToldArchive}
+use Rattle.index_core.specs.State.{ToldArchive}
 use Rattle.capture_core.specs.Types.{includes, usual_types}
 use Rattle.command_line.specs.Commands.{ToCheck, ToMerge, ToPages, ToQuery, ToScan, ToServe}
 use Rattle.tasks.specs.declared.outcome.Outcome.TheVariants as outcomes

@@ -6,8 +6,8 @@ use Rattle.std.specs.Io.KnownBytes.{Appends}
 use Rattle.json.specs.Print.{escape_byte}
 use Rattle.warc_head.specs.Fields.{value_of}
 use Rattle.warc_core.specs.Laws.{OneReading}
-use Rattle.archives.specs.Packing.{Plain}
-use Rattle.archives.specs.State.{ToldArchive}
+use Rattle.index_core.specs.Packing.{Plain}
+use Rattle.index_core.specs.State.{ToldArchive}
 use Rattle.capture_core.specs.Types.{includes, usual_types}
 use Rattle.index_core.specs.FetchingIn.{FetchesIn}
 use Rattle.index_core.specs.Indexing.{Held, index_text}

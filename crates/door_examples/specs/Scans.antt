@@ -1,7 +1,7 @@
 -- A scan of two archives, and the text that it writes.
 use Rattle.std.specs.Prelude.{ℕ, List, [], ◌∷◌, ◌++◌, codes, Some}
-use Rattle.archives.specs.Packing.{Plain}
-use Rattle.archives.specs.State.{ToldArchive}
+use Rattle.index_core.specs.Packing.{Plain}
+use Rattle.index_core.specs.State.{ToldArchive}
 use Rattle.capture_core.specs.Types.{includes, usual_types}
 use Rattle.scan_core.specs.Laws.{IsScannable, MayRise}
 use Rattle.scan_core.specs.Scanning.{Scanned}

@@ -1,6 +1,6 @@
 -- Files in memory, and what the tasks write of them.
 use Rattle.std.specs.Prelude.{◌≡◌, ℕ, List, [], ◌∷◌, ◌++◌, codes, None, Some}
-use Rattle.archives.specs.State.{ToldArchive}
+use Rattle.index_core.specs.State.{ToldArchive}
 use Rattle.capture_core.specs.Types.{usual_types}
 use Rattle.command_line.specs.Commands.{Meaning, ToList, ToVerify, ToIndex, ToMerge, ToCheck, ToQuery, ToPages, ToServe}
 use Rattle.command_line.specs.Commands.{ToGet, ToScan}
