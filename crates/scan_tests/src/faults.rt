@@ -119,7 +119,7 @@ fn numbered(
         IsUnread (⟦<PlainArchive<Fuse<Slice<'static>>> as index_core::Archive>⟧.state n.archive)) inputs.items) }
 {
     let mut inputs = Vec::new(alloc);
-    for i in 0..count {
+    'archives: for i in 0..count {
         inputs.push(Named {
             name: format!(in alloc; "{i}")?,
             archive: PlainArchive::new(alloc, Fuse::new(Slice::new(RESOURCE), 8_192, 0)),

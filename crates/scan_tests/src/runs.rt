@@ -85,7 +85,7 @@ fn inputs<'a>(
         IsUnread (⟦<PlainArchive<Fuse<Slice<'a>>> as index_core::Archive>⟧.state n.archive)) inputs.items) }
 {
     let mut inputs = Vec::new(alloc);
-    for (i, ((name, _pieces), text)) in archives.iter().zip(texts).enumerate() {
+    'archives: for (i, ((name, _pieces), text)) in archives.iter().zip(texts).enumerate() {
         let at = if i == devices.archive {
             devices.failing_read
         } else {
