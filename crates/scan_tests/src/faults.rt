@@ -111,6 +111,7 @@ fn scans_end_where_their_output_fails(rt: HostRuntime) -> Result<(), Fail> {
 }
 
 /// Returns archives of one resource each, with numbers as names.
+#[tactic(auto, using(crate::proofs::UnreadLemmas::all_more))]
 fn numbered(
     alloc: Global,
     count: usize,

@@ -75,6 +75,7 @@ pub const SOUND: Devices = Devices {
 };
 
 /// Returns archives with their names.
+#[tactic(auto, using(crate::proofs::UnreadLemmas::all_more))]
 fn inputs<'a>(
     alloc: Global,
     archives: &[Archive],
