@@ -116,8 +116,9 @@ fn numbered(
     alloc: Global,
     count: usize,
 ) -> Result<Vec<Named<PlainArchive<Fuse<Slice<'static>>>>>, Fail>
-    ensures { IfOk result (λ inputs. AllByRecursion (λ n.
-        IsUnread (⟦<PlainArchive<Fuse<Slice<'static>>> as index_core::Archive>⟧.state n.archive)) inputs.items) }
+    ensures { IfOk result (λ inputs. AllByRecursion (λ n. IsUnread
+        (⟦<PlainArchive<Fuse<Slice<'static>>> as index_core::Archive>⟧.state n.archive))
+        inputs.items) }
 {
     let mut inputs = Vec::new(alloc);
     'archives: for i in 0..count {

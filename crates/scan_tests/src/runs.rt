@@ -82,8 +82,9 @@ fn inputs<'a>(
     texts: &'a [Vec<u8>],
     devices: Devices,
 ) -> Result<Vec<Named<PlainArchive<Fuse<Slice<'a>>>>>, AllocError>
-    ensures { IfOk result (λ inputs. AllByRecursion (λ n.
-        IsUnread (⟦<PlainArchive<Fuse<Slice<'a>>> as index_core::Archive>⟧.state n.archive)) inputs.items) }
+    ensures { IfOk result (λ inputs. AllByRecursion (λ n. IsUnread
+        (⟦<PlainArchive<Fuse<Slice<'a>>> as index_core::Archive>⟧.state n.archive))
+        inputs.items) }
 {
     let mut inputs = Vec::new(alloc);
     'archives: for (i, ((name, _pieces), text)) in archives.iter().zip(texts).enumerate() {
