@@ -44,7 +44,7 @@ if sys.argv[1] == "run":
     pathlib.Path("out/warcdx.stamp").touch()
 """
 LONG = 60.0  # seconds, of a run that is waited for only if something is wrong
-CRATES = 18
+CRATES = 26
 FIRST = 3  # of them, which stand on none
 
 
