@@ -16,6 +16,7 @@ from typing import NoReturn, Optional
 
 ROOT = pathlib.Path(__file__).resolve().parents[1]
 BUILT = ROOT / "crates/warcdx/out/warcdx"
+BUILT_GZ = ROOT / "crates/warcdx_gz/out/warcdx_gz"
 USAGE = 2  # the exit status after a usage error
 MISSING = 77  # the exit status if a package is missing, as in GNU Automake
 
@@ -30,12 +31,12 @@ def add_program(parser: argparse.ArgumentParser) -> None:
     parser.add_argument("program", metavar="PROGRAM", nargs="?", help="default: the program of this repository, built if necessary")
 
 
-def find_program(name: Optional[str]) -> pathlib.Path:
-    """Returns the program of this name, or that of this repository, which is built if necessary."""
+def find_program(name: Optional[str], built: pathlib.Path = BUILT) -> pathlib.Path:
+    """Returns the program of this name, or one of this repository, which is built if necessary."""
     if name is None:
-        if not is_current():
-            subprocess.run([ROOT / "warcdx", "--help"], stdout=subprocess.DEVNULL, check=True)
-        return BUILT
+        if not is_current(built):
+            build(built)
+        return built
     path = shutil.which(os.path.abspath(name))
     if path is None:
         print(f"{name}: not a program", file=sys.stderr)
@@ -43,12 +44,20 @@ def find_program(name: Optional[str]) -> pathlib.Path:
     return pathlib.Path(path).resolve()
 
 
-def is_current() -> bool:
-    """Returns whether the program of this repository is newer than all of its sources."""
+def build(built: pathlib.Path) -> None:
+    """Builds a program of this repository."""
+    if built == BUILT:
+        subprocess.run([ROOT / "warcdx", "--help"], stdout=subprocess.DEVNULL, check=True)
+    else:
+        subprocess.run([ROOT / "tools/build.py", built.name], check=True)
+
+
+def is_current(built: pathlib.Path = BUILT) -> bool:
+    """Returns whether a program of this repository is newer than all of its sources."""
     sources = [ROOT / "crates.txt"]
     for folder in ("src", "specs", "proofs"):
         sources += ROOT.glob(f"crates/*/{folder}/**/*")
-    return os.access(BUILT, os.X_OK) and BUILT.stat().st_mtime > max(source.stat().st_mtime for source in sources)
+    return os.access(built, os.X_OK) and built.stat().st_mtime > max(source.stat().st_mtime for source in sources)
 
 
 def without_advice(error: bytes) -> bytes:

@@ -3,7 +3,8 @@
 
 usage: build.py [--processors N] [CRATE..]
 
-With CRATE it proves these crates and those below them, and builds the program only if it is one of them.
+With CRATE it proves these crates and those below them, and builds a program only if it is one of them: warcdx, or warcdx_gz, which takes
+compressed archives too.
 
 rt works on one crate of a checkout at a time. So each crate is proved in a folder of its own, with its sources and those of the crates below it. What was made
 there is then moved into the crate's folder. The crates that the build would wait for come first. A crate that is proved already isn't proved again.
@@ -33,6 +34,7 @@ from typing import NamedTuple, Optional
 ROOT = Path(__file__).resolve().parents[1]
 CRATES = ROOT / "crates"
 PROGRAM = "warcdx"
+PROGRAMS = (PROGRAM, "warcdx_gz")
 ROOMS = CRATES / PROGRAM / "out/rooms"
 SOURCES = ("src", "specs", "proofs")
 MEMORY = 4 << 30  # bytes, for each processor
@@ -182,7 +184,7 @@ class Builder:
         """Proves the crate, or builds the program. What isn't urgent yields to what is. Returns the seconds that it took."""
         began = time.monotonic()
         crate.log.parent.mkdir(parents=True, exist_ok=True)
-        if crate.name == PROGRAM:
+        if crate.name in PROGRAMS:
             self.call_rt(["run", "--jobs", str(jobs)], crate, crate.folder, is_urgent)
         else:
             with room_of(crate) as room:
@@ -239,7 +241,7 @@ def build(crates: list[Crate], processors: int, builder: Builder) -> None:
                 others += not is_urgent
                 waiting.remove(crate)
                 say(f"{crate.name} begins; its log is {crate.log.relative_to(ROOT)}")
-                jobs = min(2, processors) if len(begun) == 1 and crate.name != PROGRAM else 1
+                jobs = min(2, processors) if len(begun) == 1 and crate.name not in PROGRAMS else 1
                 running[pool.submit(builder.prove, crate, jobs, is_urgent)] = crate, is_urgent
             for ended in wait(running, return_when=FIRST_COMPLETED).done:
                 crate, _ = running.pop(ended)

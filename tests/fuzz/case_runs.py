@@ -13,7 +13,7 @@ import traceback
 from collections.abc import Callable, Iterable
 from typing import NamedTuple
 
-from program import add_program, find_program, parser_of
+from program import BUILT, add_program, find_program, parser_of
 from trial import Trial
 
 SHOWN = 4000  # characters that are printed of a difference
@@ -54,7 +54,7 @@ def numbers_of(arguments: argparse.Namespace, job: int) -> Iterable[int]:
     return itertools.count(job, arguments.jobs)
 
 
-def work(arguments: argparse.Namespace, try_case: Callable[[Trial, int], None], job: int) -> JobEnd:
+def work(arguments: argparse.Namespace, try_case: Callable[[Trial, int], None], kind: type[Trial], job: int) -> JobEnd:
     """Tries the cases of a job until the time is over. The files of the first that differs stay in their folder."""
     tally: collections.Counter[str] = collections.Counter()
     differences: list[Difference] = []
@@ -64,7 +64,7 @@ def work(arguments: argparse.Namespace, try_case: Callable[[Trial, int], None], 
         if end and time.monotonic() > end:
             break
         try:
-            try_case(Trial(arguments.program, folder, random.Random(f"{arguments.seed} {number}"), tally), number)
+            try_case(kind(arguments.program, folder, random.Random(f"{arguments.seed} {number}"), tally), number)
         except Exception as wrong:  # also what the readers don't expect
             differences.append(Difference(number, folder, f"{wrong!s:.{SHOWN}}\n{traceback.format_exc(limit=-3):.{SHOWN}}"))
             folder = pathlib.Path(tempfile.mkdtemp(prefix="fuzz-")) if len(differences) == 1 else folder
@@ -76,13 +76,15 @@ def work(arguments: argparse.Namespace, try_case: Callable[[Trial, int], None], 
     return JobEnd(tally, differences)
 
 
-def run_cases(header: str, cases: int, try_case: Callable[[Trial, int], None]) -> int:
-    """Reads the arguments of the script, tries the cases, and prints the tally. Returns the exit status."""
+def run_cases(
+    header: str, cases: int, try_case: Callable[[Trial, int], None], kind: type[Trial] = Trial, built: pathlib.Path = BUILT
+) -> int:
+    """Reads the arguments of the script, tries the cases as trials of this kind, and prints the tally. Returns the exit status."""
     arguments = read_arguments(header, cases)
-    arguments.program = str(find_program(arguments.program))
+    arguments.program = str(find_program(arguments.program, built))
     start = time.monotonic()
     with concurrent.futures.ProcessPoolExecutor(arguments.jobs) as pool:
-        jobs = [pool.submit(work, arguments, try_case, job) for job in range(arguments.jobs)]
+        jobs = [pool.submit(work, arguments, try_case, kind, job) for job in range(arguments.jobs)]
         ends = [job.result() for job in jobs]
     return report(arguments, ends, time.monotonic() - start)
 

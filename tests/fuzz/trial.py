@@ -14,7 +14,7 @@ from program import without_advice
 SECONDS = 20
 CAUSES = (
     "Version|ShortHead|HeadTooLong|FieldLine|Missing|Repeated|BadLength|BadDate|ShortBlock|Closing|TooFar|KeyTooLong|LineTooLong|"
-    "Read|Memory"
+    "NoMember|BadMember|CutMember|SeveralRecords|Read|Memory"
 )
 REFUSALS = (
     "Unknown|RepeatedParameter|BadMatch|BadStamp|BadFilter|NotLiteral|BadLimit|BadResume|BadField|BadOutput|BadFlag|BadCollapse|NoUrl|"

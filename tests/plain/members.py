@@ -1,0 +1,72 @@
+"""Reads archives in either form in the plainest way: whole, in memory, member by member, as docs/COMPRESSED.md says. zlib unpacks."""
+import zlib
+from typing import NamedTuple, Optional
+
+from plain import records
+from plain.records import Damage, Fault, Record
+
+MAGIC = b"\x1f\x8b"
+GZIP = 16 + zlib.MAX_WBITS
+
+
+class Read(NamedTuple):
+    """An archive that was read."""
+
+    records: list[Record]  # with the offsets and lengths of their members, if the archive is compressed
+    fault: Optional[Fault]
+    texts: dict[int, bytes]  # of the records, by their offsets
+
+
+class Member(NamedTuple):
+    length: int  # in bytes of the archive
+    text: bytes
+
+
+def is_compressed(archive: bytes) -> bool:
+    return archive.startswith(MAGIC)
+
+
+def read(archive: bytes) -> Read:
+    """The whole records of an archive in either form, and where it is damaged the offset and the cause."""
+    if is_compressed(archive):
+        return read_members(archive)
+    found, fault = records.read(archive)
+    return Read(found, fault, {each.offset: archive[each.offset : each.offset + each.length] for each in found})
+
+
+def read_members(archive: bytes) -> Read:
+    found: list[Record] = []
+    texts: dict[int, bytes] = {}
+    offset = 0
+    while offset < len(archive):
+        try:
+            member = read_member(archive, offset)
+            if member.text:
+                found.append(record_of(member)._replace(offset=offset, length=member.length))
+                texts[offset] = member.text
+        except Damage as damage:
+            return Read(found, (offset, str(damage)), texts)
+        offset += member.length
+    return Read(found, None, texts)
+
+
+def read_member(archive: bytes, offset: int) -> Member:
+    packed = archive[offset:]
+    if not packed.startswith(MAGIC):
+        raise Damage("CutMember" if packed == MAGIC[:1] else "NoMember")
+    inflater = zlib.decompressobj(GZIP)
+    try:
+        text = inflater.decompress(packed)
+    except zlib.error:
+        raise Damage("BadMember") from None
+    if not inflater.eof:
+        raise Damage("CutMember")
+    return Member(len(packed) - len(inflater.unused_data), text)
+
+
+def record_of(member: Member) -> Record:
+    """The record that a member holds and nothing else."""
+    record = records.read_record(member.text, 0)
+    if record.length < len(member.text):
+        raise Damage("SeveralRecords")
+    return record
