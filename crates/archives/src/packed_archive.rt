@@ -74,6 +74,8 @@ impl<I: Input> PackedArchive<I> {
 
     /// Creates an archive of which nothing was read. It takes some 400 kB, whatever the members
     /// hold. If there is no memory for it, the first call says so.
+    // Where it is inlined into `open`, LLVM doesn't end.
+    #[inline(never)]
     pub fn new(alloc: Global, input: I) -> PackedArchive<I>
         ensures unread { IsUnread (packed_state result.file) }
         ensures bytes { (packed_state result.file).ahead ≡ within_file 0 (I.remaining input) }
