@@ -14,3 +14,4 @@ pub mod OverLemmas
 pub mod MovesLemmas
 mod SkipLemmas
 pub mod TextLemmas
+pub mod StayLemmas
