@@ -15,3 +15,4 @@ pub mod MovesLemmas
 mod SkipLemmas
 pub mod TextLemmas
 pub mod StayLemmas
+pub mod AloneLemmas

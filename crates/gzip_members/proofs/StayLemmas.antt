@@ -1,5 +1,5 @@
 -- A member is read alike with more bytes behind it.
-use Rattle.std.proofs.Common.{◌≡◌, ℕ, zero, suc, ◌+◌, ◌-◌, ◌*◌, ◌/◌, ◌%◌, ◌^◌, ◌≤◌, ◌==◌, Bool, true, false, nat_lt, List, [], ◌∷◌, ◌++◌, length, take, drop, Result, Ok, Err, refl, sym, ap, ◌∙◌, inl, inr, arith, length-append}
+use Rattle.std.proofs.Common.{◌≡◌, ℕ, zero, suc, ◌+◌, ◌-◌, ◌*◌, ◌/◌, ◌%◌, ◌^◌, ◌≤◌, ◌==◌, Bool, true, false, nat_lt, List, [], ◌∷◌, ◌++◌, length, take, drop, Result, Ok, Err, refl, sym, ap, ◌∙◌, subst, inl, inr, arith, length-append}
 use Rattle.std.specs.Bool.{if◌then◌else◌}
 use Rattle.std.proofs.lemmas.Bool.{le-ltb, lt-ltb, cases_lt}
 use Rattle.std.proofs.lemmas.List.{take-append-le, drop-append-le}
@@ -17,6 +17,7 @@ use Rattle.inflate.proofs.GrowLemmas.{inflated_leaves}
 use Rattle.inflate.proofs.LawLemmas.{inflated_stays}
 use Rattle.inflate.proofs.RestLemmas.{rest_fewer}
 use Rattle.gzip_members.specs.Header.{Parted, byte_in, pair_in, past_in, text_in, name_in, extra_in, sum_is, sum_in, is_set, where_set, is_known, flags_in, fields_in, header_in}
+use Rattle.gzip_members.specs.Laws.{IsMember}
 use Rattle.gzip_members.specs.Members.{bytes_behind, size_in, trailer_in, with_text, closed, body_in, body_behind, member_in}
 use Rattle.gzip_members.proofs.BodyLemmas.{bits_front}
 
@@ -115,7 +116,7 @@ header_stays = then_stays flags_in _ flags_stays λ flags. then_stays (past_in 6
 
 -- ---- the trailer
 
-abbrev left : List ℕ → Result (List ℕ) DeflateFault → Result (List ℕ) DeflateFault
+abbrev pub left : List ℕ → Result (List ℕ) DeflateFault → Result (List ℕ) DeflateFault
 left more (Ok rest) = Ok (rest ++ more)
 left more (Err e) = Err e
 
@@ -146,7 +147,7 @@ unfolding size_in
 size_stays size bytes more w =
     four_stays size bytes more (Ok (drop 4 bytes)) (Ok (drop 4 (bytes ++ more))) (λ long v. ap (λ l. Ok l) (drop-append-le 4 bytes more long)) w
 
-trailer_stays : (sum size : ℕ) (bytes more : List ℕ) → IsWhole (trailer_in sum size bytes)
+pub trailer_stays : (sum size : ℕ) (bytes more : List ℕ) → IsWhole (trailer_in sum size bytes)
     → trailer_in sum size (bytes ++ more) ≡ left more (trailer_in sum size bytes)
 unfolding trailer_in
 trailer_stays sum size bytes more w =
@@ -206,3 +207,9 @@ unfolding member_in
 member_stays bytes more w =
     ap (λ r. r >>= body_behind) (header_stays ([], bytes) more (whole_first (header_in ([], bytes)) body_behind w))
     ∙ headed_stays more (header_in ([], bytes)) w
+
+-- more bytes behind a member are left
+pub member_followed : (bytes more text : List ℕ) → IsMember bytes text → member_in (bytes ++ more) ≡ Ok (text, more)
+member_followed bytes more text is =
+    let whole : IsWhole (member_in bytes) = subst (λ r. IsWhole r) (sym is.reads) tt in
+    member_stays bytes more whole ∙ ap (followed more) is.reads

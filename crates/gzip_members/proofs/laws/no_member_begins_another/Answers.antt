@@ -1,10 +1,9 @@
-use Rattle.std.proofs.Common.{◌≡◌, ◌<◌, List, [], ◌++◌, ℕ, length, Result, Ok, Err, refl, sym, ap, ◌∙◌, arith, length-append, subst}
+use Rattle.std.proofs.Common.{◌≡◌, ◌<◌, List, [], ◌++◌, ℕ, length, Result, Ok, Err, refl, sym, ap, ◌∙◌, arith, length-append}
 use Rattle.deflate_bits.specs.declared.fault.DeflateFault.{DeflateFault}
 use Rattle.deflate_bits.specs.declared.fault.DeflateFault.TheVariants.{Bad, Cut}
 use Rattle.inflate.specs.Laws.{followed}
-use Rattle.gzip_members.specs.Laws.{IsMember}
 use Rattle.gzip_members.specs.Members.{member_in}
-use Rattle.gzip_members.proofs.StayLemmas.{IsWhole, member_stays}
+use Rattle.gzip_members.proofs.StayLemmas.{IsWhole, member_followed, member_stays}
 use Rattle.gzip_members.proofs.laws.no_member_begins_another.Goals as goal
 
 abbrev Left : Type 0
@@ -13,15 +12,9 @@ Left = List ℕ × List ℕ
 same_left : (x y : Left) → ◌≡◌ {A = Result Left DeflateFault} (Ok x) (Ok y) → x ≡ y
 same_left x y e = grind arith
 
--- more bytes behind a member are left
-more_left : (bytes more text : List ℕ) → IsMember bytes text → member_in (bytes ++ more) ≡ Ok (text, more)
-more_left bytes more text is =
-    let whole : IsWhole (member_in bytes) = subst (λ r. IsWhole r) (sym is.reads) tt in
-    member_stays bytes more whole ∙ ap (followed more) is.reads
-
 pub returns-clause-one : goal.returns-clause-one
 returns-clause-one c = λ bytes more text other this that.
-    let same = same_left (text, more) (other, []) (sym (more_left bytes more text this) ∙ that.reads) in
+    let same = same_left (text, more) (other, []) (sym (member_followed bytes more text this) ∙ that.reads) in
     (ap (λ (x : Left). x.1) same, sym (ap (λ (x : Left). x.0) same))
 
 -- a part that isn't cut leaves what follows it
