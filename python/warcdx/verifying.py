@@ -22,10 +22,6 @@ class Checked(NamedTuple):
     payload: Verdict
 
 
-class _Cut(Exception):
-    """The file ends before the end of a record that was listed."""
-
-
 def check_archive(archive: Archive) -> Generator[Checked, None, None]:
     """Yields each record of an archive, which isn't a pipe. After the last one raises the fault of a damaged archive.
 
@@ -42,31 +38,36 @@ def check_archive(archive: Archive) -> Generator[Checked, None, None]:
 
 def _check_listed(path: str, file: IO[bytes], listed: Listed) -> Verdicts:
     """Returns the verdicts on a record. Raises a Fault if the file was cut or changed after it was listed."""
-    check, stored = RecordCheck(), _stored(file, listed)
+    check, stored, is_packed = RecordCheck(), _stored(file, listed), False
     try:
-        first = next(stored, b"")
+        first = next(stored)
         is_packed = first.startswith(MAGIC)
         pieces = itertools.chain((first,), stored)
-        for piece in inflated(pieces, _GZIP) if is_packed else pieces:
-            if check.add(memoryview(piece)):
-                raise Unreadable("the record ends before its end")
-        if not check.is_whole:
-            raise Unreadable("the record doesn't end")
-    except _Cut:
-        name = CutMember if is_packed else ShortHead if check.size is None else ShortBlock
-        raise fault(name.__name__, path, listed.offset) from None
+        _check_pieces(check, inflated(pieces, _GZIP) if is_packed else pieces)
+    except EOFError:
+        cause = CutMember if is_packed else ShortHead if check.size is None else ShortBlock
+        raise fault(cause.__name__, path, listed.offset) from None
     except (OSError, Unreadable) as error:
         raise Read("Read", path, listed.offset) from error
     return check.verdicts()
 
 
+def _check_pieces(check: RecordCheck, pieces: Iterator[bytes]) -> None:
+    """Reads a record that is these pieces. Raises Unreadable if they aren't one."""
+    for piece in pieces:
+        if check.add(memoryview(piece)):
+            raise Unreadable("the file was changed meanwhile")
+    if not check.is_whole:
+        raise Unreadable("the file was changed meanwhile")
+
+
 def _stored(file: IO[bytes], listed: Listed) -> Iterator[bytes]:
-    """Yields the bytes of a record as they are in the file. Raises _Cut if there are fewer."""
+    """Yields the bytes of a record as they are in the file. Raises EOFError if there are fewer."""
     left = listed.length
     file.seek(listed.offset)
     while left:
         piece = file.read(min(left, _PIECE))
         if not piece:
-            raise _Cut
+            raise EOFError
         left -= len(piece)
         yield piece
