@@ -98,12 +98,16 @@ class Archive:
         write_output(output, *self._get(offset, length))
 
     @contextlib.contextmanager
-    def stream(self, offset: int, *, length: Optional[int] = None) -> Iterator[RecordStream]:
+    def stream(
+        self, offset: int, *, length: Optional[int] = None, seconds: Optional[float] = None
+    ) -> Iterator[RecordStream]:
         """Opens the record that begins at an offset, as `get` does, to be read in pieces.
 
         It needn't be read to its end. If it is, and the archive is damaged in it, the fault is raised at the end.
+        A member is unpacked to its end, however much follows the record. If the program is silent for more than
+        `seconds`, it is ended, and ReplyTooLate is raised.
         """
-        with running(*self._get(offset, length)) as output:
+        with running(*self._get(offset, length), seconds=seconds) as output:
             record = RecordStream.read(output)
             if record is not None:
                 yield record

@@ -2,8 +2,10 @@
 import contextlib
 import ctypes
 import functools
+import io
 import os
 import re
+import select
 import shutil
 import signal
 import subprocess
@@ -14,7 +16,7 @@ from collections.abc import Callable, Iterator
 from typing import IO, Any, Optional, Union
 
 from .command import deferred, memory_file, reserve
-from .errors import NO_STATUS, Error, Fault, ProgramMissing, ProgramTooOld, error_of
+from .errors import NO_STATUS, Error, Fault, ProgramMissing, ProgramTooOld, ReplyTooLate, error_of
 from .streams import whole
 
 Path = Union[str, os.PathLike[str]]
@@ -222,9 +224,29 @@ def fault_of(process: Process, said: IO[bytes], output: IO[bytes]) -> Optional[F
     raise reported
 
 
+class _TimedOutput(io.RawIOBase):
+    """The output of a program that has to write the next piece, or end, within `seconds` each time."""
+
+    def __init__(self, pipe: IO[bytes], seconds: float) -> None:
+        self._number = pipe.fileno()
+        self._seconds = seconds
+        self._poll = select.poll()
+        self._poll.register(self._number, select.POLLIN)
+
+    def readable(self) -> bool:
+        return True
+
+    def readinto(self, room: "bytearray | memoryview") -> int:  # type: ignore[override]
+        if not self._poll.poll(self._seconds * 1000):
+            raise ReplyTooLate(f"the program has written nothing for {self._seconds:g} seconds")
+        return os.readv(self._number, [room])
+
+
 @contextlib.contextmanager
-def running(*command: str, good: tuple[int, ...] = (0,), stdin: Optional[int] = None) -> Iterator[IO[bytes]]:
-    """Runs the program, and yields its output.
+def running(
+    *command: str, good: tuple[int, ...] = (0,), stdin: Optional[int] = None, seconds: Optional[float] = None
+) -> Iterator[IO[bytes]]:
+    """Runs the program, and yields its output, of which each piece comes within `seconds`, or ReplyTooLate is raised.
 
     Its standard input is that of this process, in which a path such as `/dev/stdin` may name a file, or `stdin`.
     If the output was read to its end, raises what the program has reported, unless its exit status is one
@@ -232,8 +254,11 @@ def running(*command: str, good: tuple[int, ...] = (0,), stdin: Optional[int] = 
     """
     with memory_file() as said, started(command, said, stdin) as process:
         assert process.stdout is not None
-        yield process.stdout
-        if not process.stdout.read(1) and process.wait() not in good:
+        output: IO[bytes] = process.stdout
+        if seconds is not None:
+            output = io.BufferedReader(_TimedOutput(process.stdout, seconds))
+        yield output
+        if not output.read(1) and process.wait() not in good:
             raise end_of(process, said)
 
 

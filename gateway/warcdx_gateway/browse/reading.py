@@ -6,7 +6,7 @@ from collections.abc import Iterator
 from dataclasses import dataclass
 from typing import Optional
 
-from warcdx import Capture, Error, Fault, Unreadable, faults, open_archive
+from warcdx import Capture, Error, Fault, ReplyTooLate, Unreadable, faults, open_archive
 from warcdx.codings import Limits
 from warcdx.record import Head, HttpHead, RecordStream
 from warcdx.record_digests import RecordCheck, Verdicts
@@ -16,6 +16,7 @@ from .searching import NotShown
 
 MOST_SHOWN = 4 << 20  # bytes of a payload that are shown
 MOST_VERIFIED = 1 << 28  # bytes of a block whose digest is compared for a page
+SILENCE = 10  # seconds for the program to find a record, and to unpack what follows it in its member
 # What unpacking a payload may take, for a page and for a download.
 SHOWN = Limits(size=64 << 20, seconds=5)
 DOWNLOADED = Limits(size=16 << 30, seconds=3600)
@@ -111,7 +112,7 @@ def opened(collection: Collection, capture: Capture) -> Iterator[RecordStream]:
         )
     try:
         archive = open_archive(path, program=collection.program)
-        with archive.stream(capture.offset, length=capture.length) as record:
+        with archive.stream(capture.offset, length=capture.length, seconds=SILENCE) as record:
             yield record
     except faults.NoRecord:
         raise NotShown(
@@ -119,7 +120,7 @@ def opened(collection: Collection, capture: Capture) -> Iterator[RecordStream]:
             "No record of the archive begins at this offset and has this length.",
             404,
         ) from None
-    except (Fault, Unreadable) as error:
+    except (Fault, ReplyTooLate, Unreadable) as error:
         raise NotShown("The record can't be read.", reason_of(error), 502) from error
 
 
