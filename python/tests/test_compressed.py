@@ -16,8 +16,9 @@ import zlib
 from collections.abc import Callable
 from typing import Optional
 
-from warcdx import Archive, CompressedArchive, Fault, Listed, ProgramEnded, ProgramMissing, Verified, faults, open_archive
+from warcdx import Archive, CompressedArchive, Fault, Listed, ProgramEnded, ProgramMissing, ReplyTooLate, Verified, faults, open_archive
 from warcdx.program import find_packed_program, find_program
+from warcdx.record import RecordStream
 
 from .support import PROGRAM, SAMPLES, WAIT, Case, packed
 
@@ -181,11 +182,16 @@ class Bad(Packed):
         self.assertTrue(TEXT.startswith(output.getvalue()))
         self.raises(faults.BadMember, archive.get, 207)
         self.raises(faults.BadMember, archive.verdict, 207)
-        self.assertEqual(264, len(b"".join(self.whole_of(archive, 0))))
+        for pieces in (RecordStream.whole, RecordStream.block, RecordStream.payload):
+            with self.assertRaises(faults.BadMember), archive.stream(207) as stream:
+                list(pieces(stream))
 
-    def whole_of(self, archive: Archive, offset: int) -> list[bytes]:
-        with archive.stream(offset) as stream:
-            return list(stream.whole())
+    def test_a_program_that_is_silent_is_ended(self) -> None:
+        archive = self.archive(member(PAGE + bytes(256 << 20)))
+        with self.assertRaises(ReplyTooLate), archive.stream(0, seconds=0.01):
+            pass
+        with self.assertRaises(faults.SeveralRecords), archive.stream(0, seconds=WAIT) as stream:
+            list(stream.whole())
 
     def test_what_is_no_member(self) -> None:
         for text in (b"x", bytes(512), PAGE, b"\x8b"):

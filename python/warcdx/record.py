@@ -144,6 +144,7 @@ class RecordStream:
         while left and (piece := self._rest.read(min(left, _PIECE))):
             left -= len(piece)
             yield piece
+        self._rest.read(len(CLOSING))  # so that the record was read to its end, where its member is judged
 
     @functools.cached_property
     def http_head(self) -> Optional[bytes]:

@@ -192,14 +192,14 @@ class Download:
     """The pieces of a record, of its payload, or of the payload as it is stored with its codings.
 
     What `stack` has to close is closed with it. The constructor raises NotShown, and so does the
-    iterator if the record ends before its end.
+    iterator, in place of the last piece, if the record isn't whole or its archive is damaged there.
     """
 
     def __init__(self, stack: contextlib.ExitStack, record: RecordStream, what: str) -> None:
         self.head = record.head
         self.size = record.size if what == "record" else None
         self._pieces = _pieces_of(record, what)
-        self._first: Optional[bytes] = self._next()
+        self._ahead = self._next()
         self._stack = stack.pop_all()
 
     def held(self, most: int) -> Optional[bytes]:
@@ -210,18 +210,19 @@ class Download:
             if not piece:
                 return bytes(held)
             held += piece
-        self._first = bytes(held)
+        self._ahead = bytes(held) + self._ahead
         return None
 
     def __iter__(self) -> Iterator[bytes]:
         return self
 
     def __next__(self) -> bytes:
-        piece, self._first = self._first, None
-        if piece is None:
-            piece = self._next()
-        if not piece:
+        piece = self._ahead
+        if piece:
+            self._ahead = self._next()
+        if not self._ahead:
             self._stack.close()  # which raises why the record has ended, if that is too early
+        if not piece:
             raise StopIteration
         return piece
 
