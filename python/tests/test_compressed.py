@@ -16,7 +16,19 @@ import zlib
 from collections.abc import Callable
 from typing import Optional
 
-from warcdx import Archive, CompressedArchive, Fault, Listed, ProgramEnded, ProgramMissing, ReplyTooLate, Verified, faults, open_archive
+from warcdx import (
+    Archive,
+    CompressedArchive,
+    Fault,
+    Listed,
+    ProgramEnded,
+    ProgramMissing,
+    ReplyTooLate,
+    Verified,
+    faults,
+    open_archive,
+    update_command,
+)
 from warcdx.program import find_packed_program, find_program
 from warcdx.record import RecordStream
 
@@ -138,7 +150,9 @@ class Good(Packed):
 
     def test_an_index_of_another_name_and_of_other_types(self) -> None:
         archive = self.archive(BOTH)
-        for name, shown in (("b.warc.gz", b"b.warc.gz"), ("2016/c.warc.gz", b"c.warc.gz"), ("-x", b"-x"), ("\u00e9", b"\xc3\xa9"), ("-", b"-")):
+        for name, shown in (
+            ("b.warc.gz", b"b.warc.gz"), ("2016/c.warc.gz", b"c.warc.gz"), ("-x", b"-x"), ("\u00e9", b"\xc3\xa9"), ("-", b"-")
+        ):  # fmt: skip
             self.assertEqual((PAGE_LINE % shown + TEXT_LINE % shown, ""), self.index(archive, name))
         for name in ("n" * 256, "a/", ""):
             self.assertEqual((b"", "BadName None"), self.index(archive, name))
@@ -329,6 +343,21 @@ class Programs(Case):
         beside = self.program("one/warcdx-gz", "usage: warcdx-gz")
         error = self.raises(ProgramMissing, find_packed_program, str(plain))
         self.assertEqual(f"{beside}: not the program warcdx", str(error))
+
+    def test_the_tasks_of_warcdx_update_run_it(self) -> None:
+        plain, beside = self.program("one/warcdx", "warcdx 0.1.0: x"), self.program("one/warcdx-gz", "warcdx-gz 0.1.0: x")
+        named = ("--warcdx", str(plain))
+        for words, wanted in (
+            (named, (str(plain), str(beside))),
+            ((*named, "--warcdx-gz", "other"), (str(plain), "other")),
+            ((*named, "--warcdx-gz", "a/other"), (str(plain), os.path.abspath("a/other"))),
+            ((*named, "--scheduler", "x"), (str(plain), str(beside))),
+            (("--scheduler", "x"), ("warcdx", "warcdx-gz")),
+            (("--warcdx", "warcdx-gz", "--jobs", "1"), (str(beside), str(beside))),
+        ):
+            with unittest.mock.patch.dict(os.environ, PATH=str(plain.parent)):
+                found = update_command.programs_of(update_command.read_arguments([*words, "folder", "index"]))
+            self.assertEqual([(each,) for each in wanted], list(found), words)
 
     def test_a_plain_archive_needs_it_not(self) -> None:
         plain = self.program("one/warcdx", "warcdx 0.1.0: x")

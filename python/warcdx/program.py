@@ -55,7 +55,7 @@ def find_packed_program(name: str) -> str:
 
 
 def packed_program_of(path: str) -> str:
-    """Returns the path of warcdx-gz, from the path of either program, or its name alone if it isn't in the same folder."""
+    """Returns the path of warcdx-gz from that of either program, or its name alone if it isn't in the same folder."""
     if check_version(path) == PACKED:
         return path
     beside = os.path.join(os.path.dirname(path), PACKED)

@@ -52,7 +52,8 @@ def read_arguments(arguments: Optional[Sequence[str]]) -> argparse.Namespace:
     parser.add_argument("--version", action="version", version=f"{NAME} {__version__}")
     help_jobs = "how many archives to check at a time (%(default)s)"
     parser.add_argument("--jobs", type=_jobs_of, default=1, metavar="N", help=help_jobs)
-    parser.add_argument("--warcdx", default="warcdx", metavar="PROGRAM", help="the program (%(default)s)")
+    help_program = "the program (%(default)s); for compressed archives warcdx-gz beside it, or of the PATH"
+    parser.add_argument("--warcdx", default="warcdx", metavar="PROGRAM", help=help_program)
     parser.add_argument("files", nargs="+", metavar="FILE")
     return parser.parse(arguments)
 
