@@ -3,21 +3,23 @@
 
 usage: measure_gz.py [PROGRAM]
 
-Makes compressed archives in a temporary folder (TMPDIR, 100 MB) and prints a table. The exit status is 0, or 1 if a goal is missed.
+PROGRAM is warcdx, in whose folder warcdx-gz may be, too. Makes compressed archives in a temporary folder (TMPDIR, 150 MB) and prints a table.
+The exit status is 0, or 1 if a goal is missed.
 """
 import gzip
 import os
 import pathlib
 import random
+import resource
 import subprocess
 import sys
 import tempfile
-import time
 
-from measuring import Figure, read_program, report
+from measuring import Figure, least_times, peak, read_program, report, run_time, seconds
+from program import find_packed_program
 
-COMMAND = pathlib.Path(__file__).resolve().parents[1] / "python/bin/warcdx-gz"
 ROUNDS = 7
+STARTS = 100
 RECORD = (
     b"WARC/1.0\r\nWARC-Type: response\r\nWARC-Record-ID: <urn:x>\r\nWARC-Date: 2016-01-01T00:00:00Z\r\n"
     b"WARC-Target-URI: http://example.com/%d\r\nWARC-Payload-Digest: sha1:3I42H3S6NNFQ2MSVX7XZKYAYSCX5QBYJ\r\n"
@@ -36,39 +38,46 @@ def make(path: pathlib.Path, records: int, words: int) -> None:
             file.write(gzip.compress(RECORD % (number, HTTP_HEAD + len(page), page), 6, mtime=0))
 
 
-def seconds(command: str) -> float:
-    start = time.perf_counter()
-    subprocess.run(("bash", "-o", "pipefail", "-c", command), check=True, stdout=subprocess.DEVNULL)
-    return time.perf_counter() - start
+def piped_time(program: pathlib.Path, archive: pathlib.Path) -> float:
+    """The user and system time, in seconds, of both processes of a pipe."""
+    before = resource.getrusage(resource.RUSAGE_CHILDREN)
+    with open(archive, "rb") as file, subprocess.Popen(("gunzip", "-c"), stdin=file, stdout=subprocess.PIPE) as unpacking:
+        subprocess.run((program, "index", "-"), stdin=unpacking.stdout, stdout=subprocess.DEVNULL, check=True)
+    if unpacking.returncode:
+        raise subprocess.CalledProcessError(unpacking.returncode, "gunzip")
+    return seconds(resource.getrusage(resource.RUSAGE_CHILDREN)) - seconds(before)
 
 
-def memory(program: pathlib.Path, archive: pathlib.Path) -> float:
-    """Returns the peak memory of the command and of the programs that it runs, the largest of them, in MB."""
-    process = os.fork()
-    if not process:
-        os.dup2(os.open(os.devnull, os.O_WRONLY), 1)
-        os.execv(COMMAND, [str(COMMAND), "--warcdx", str(program), "index", str(archive)])
-    _, status, usage = os.wait4(process, 0)
-    if status:
-        sys.exit("warcdx-gz failed")
-    return usage.ru_maxrss * 1024 / 1e6
+def expect_lines(packed: pathlib.Path, archive: pathlib.Path, records: int) -> None:
+    """Ends the script if warcdx-gz doesn't index each record."""
+    lines = subprocess.run((packed, "index", archive), stdout=subprocess.PIPE, check=True).stdout
+    if lines.count(b"\n") != records:
+        sys.exit(f"{packed} has written {lines[:200]!r}..")
+
+
+def start_time(packed: pathlib.Path) -> float:
+    """The user and system time of a run over an empty archive, in milliseconds."""
+    return 1000 * min(run_time((packed, "list", os.devnull)) for _ in range(STARTS))
 
 
 def main() -> int:
     program = read_program(__doc__)
-    times, figures = {}, []
+    packed = find_packed_program(program)
+    times, figures = {}, [Figure("start", start_time(packed), 2, "ms")]
     with tempfile.TemporaryDirectory() as name:
-        for title, records, words, goal in (("pages of 20 kB", 6000, 1700, 1.3), ("pages of 2 kB", 40_000, 150, 1.3)):
+        for title, records, words in (("pages of 2 kB", 40_000, 150), ("pages of 20 kB", 6000, 1700), ("pages of 200 kB", 600, 17_000)):
             archive = pathlib.Path(name, "archive.warc.gz")
             make(archive, records, words)
-            piped = f"gunzip -c '{archive}' | '{program}' index -"
-            packed = f"'{COMMAND}' --warcdx '{program}' index '{archive}'"
-            rounds = [(seconds(piped), seconds(packed)) for _ in range(ROUNDS)]
-            times[f"gunzip | index -, {title}"], times[f"warcdx-gz index, {title}"] = map(min, zip(*rounds))
-            ratio = times[f"warcdx-gz index, {title}"] / times[f"gunzip | index -, {title}"]
-            figures.append(Figure(f"over gunzip | index -, {title}", ratio, goal))
-            figures.append(Figure(f"memory, {title}", memory(program, archive), 60, "MB"))
-        return report(times, figures, ROUNDS, "elapsed")
+            expect_lines(packed, archive, records)
+            piped, alone = f"gunzip | warcdx index -, {title}", f"warcdx-gz index, {title}"
+            listing, indexing = (packed, "list", archive), (packed, "index", archive)
+            runs = {piped: lambda: piped_time(program, archive), alone: lambda: run_time(indexing)}
+            found = least_times(runs, ROUNDS)
+            times.update(found)
+            figures.append(Figure(f"over gunzip | index -, {title}", found[alone] / found[piped], 0.5))
+            figures.append(Figure(f"memory of list, {title}", peak(listing) / 1e6, 4, "MB"))
+            figures.append(Figure(f"memory of index, a capture, {title}", (peak(indexing) - peak(listing)) / 1000 / records, 0.4, "kB"))
+        return report(times, figures, ROUNDS)
 
 
 if __name__ == "__main__":

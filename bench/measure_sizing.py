@@ -20,6 +20,7 @@ from typing import NamedTuple
 
 from make_crawls import Crawl
 from measuring import machine, peak, read_program, write_archive
+from program import find_packed_program
 
 COMMANDS = pathlib.Path(__file__).resolve().parents[1] / "python/bin"
 CAPTURES = 200_000
@@ -116,7 +117,7 @@ def archive_times(program: pathlib.Path, folder: pathlib.Path) -> list[Size]:
     """Processor time of the commands that read archives, over that of reading the archive."""
     found = []
     archive, packed = folder / "long.warc", folder / "long.warc.gz"
-    index_packed = COMMANDS / "warcdx-gz", "--warcdx", program, "index", packed
+    index_packed = find_packed_program(program), "index", packed
     verify_packed = COMMANDS / "warcdx-verify", "--warcdx", program, packed
     for title, name in (("with", "WARC-Payload-Digest"), ("without", "X-Payload-Digest")):
         crawl = Crawl(LONG_CAPTURES, LONG_PAGE, name)
@@ -144,7 +145,7 @@ def cdx_times(program: pathlib.Path, folder: pathlib.Path) -> list[Size]:
 
 
 def folder_sizes(program: pathlib.Path, folder: pathlib.Path) -> list[Size]:
-    """What warcdx-update writes beside an index, over the index, and the memory of warcdx-gz."""
+    """What warcdx-update writes beside an index, over the index."""
     archives, index = folder / "archives", folder / "all.cdxj"
     archives.mkdir()
     for number in range(4):

@@ -1,9 +1,10 @@
 #!/usr/bin/env python3
-"""Prints the path of the program that the tests run.
+"""Prints the path of a program that the tests run.
 
-usage: program.py [PROGRAM]
+usage: program.py [--gz] [PROGRAM]
 
 Without PROGRAM it is the program of this repository, crates/warcdx/out/warcdx, which is built first if it is missing or older than a source.
+With --gz it is the program for compressed archives: warcdx-gz in the folder of PROGRAM, or else that of this repository, which is built likewise.
 Other scripts import this file for what all of them share: their arguments, the program, and the lines that they print.
 """
 import argparse
@@ -17,6 +18,8 @@ from typing import NoReturn, Optional
 ROOT = pathlib.Path(__file__).resolve().parents[1]
 BUILT = ROOT / "crates/warcdx/out/warcdx"
 BUILT_GZ = ROOT / "crates/warcdx_gz/out/warcdx_gz"
+PACKED = "warcdx-gz"
+LINKS = ROOT / "tests/out/bin"  # a folder with a link of that name
 USAGE = 2  # the exit status after a usage error
 MISSING = 77  # the exit status if a package is missing, as in GNU Automake
 
@@ -42,6 +45,30 @@ def find_program(name: Optional[str], built: pathlib.Path = BUILT) -> pathlib.Pa
         print(f"{name}: not a program", file=sys.stderr)
         sys.exit(USAGE)
     return pathlib.Path(path).resolve()
+
+
+def find_packed_program(program: pathlib.Path) -> pathlib.Path:
+    """Returns warcdx-gz in the folder of a program, or else that of this repository, which is built if necessary.
+
+    The latter is on the PATH then, where the commands that are Python find it.
+    """
+    beside = program.with_name(PACKED)
+    if os.access(beside, os.X_OK):
+        return beside
+    link = link_to(find_program(None, BUILT_GZ))
+    os.environ["PATH"] = f"{LINKS}:{os.environ['PATH']}"
+    return link
+
+
+def link_to(built: pathlib.Path) -> pathlib.Path:
+    """Returns a link to the program for compressed archives that has its name. Other scripts may make the same one."""
+    LINKS.mkdir(parents=True, exist_ok=True)
+    link = LINKS / PACKED
+    if os.path.realpath(link) != os.path.realpath(built):
+        new = LINKS / f"{PACKED}.{os.getpid()}"
+        new.symlink_to(built)
+        new.replace(link)
+    return link
 
 
 def build(built: pathlib.Path) -> None:
@@ -102,8 +129,11 @@ class Report:
 
 def main() -> None:
     parser = parser_of(__doc__)
+    parser.add_argument("--gz", action="store_true", help="the program for compressed archives")
     add_program(parser)
-    print(find_program(parser.parse_args().program))
+    given = parser.parse_args()
+    program = find_program(given.program)
+    print(find_packed_program(program) if given.gz else program)
 
 
 if __name__ == "__main__":

@@ -14,6 +14,13 @@ read_program() {
     program=$("$root/tests/program.py" "$@")
 }
 
+# read_packed: sets `packed` to the program for compressed archives that belongs to `program`. Its folder is put on the PATH, where
+# the commands that are Python find it.
+read_packed() {
+    packed=$("$root/tests/program.py" --gz "$program")
+    PATH=${packed%/*}:$PATH
+}
+
 # read_help ARGUMENT..: prints the header of the script if the first argument asks for help. Another option is a usage error.
 read_help() {
     case ${1:-} in

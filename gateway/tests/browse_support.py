@@ -1,6 +1,6 @@
 """What the tests of the pages share: archives that they write, and the pages served over them.
 
-The variable WARCDX names the program, or else it is `warcdx` of the PATH.
+The variable WARCDX names the program, or else it is `warcdx` of the PATH. `warcdx-gz` belongs to it.
 """
 import atexit
 import base64
@@ -9,12 +9,12 @@ import functools
 import gzip
 import hashlib
 import html
+import io
 import json
 import os
 import pathlib
 import re
 import shutil
-import subprocess
 import sys
 import tempfile
 import threading
@@ -29,6 +29,7 @@ from urllib.parse import urlencode
 GATEWAY = pathlib.Path(__file__).resolve().parents[1]
 sys.path[:0] = [str(GATEWAY), str(GATEWAY.parent / "python")]
 
+from warcdx import open_archive  # noqa: E402
 from werkzeug.serving import WSGIRequestHandler, make_server  # noqa: E402
 from werkzeug.test import Client, TestResponse  # noqa: E402
 
@@ -146,12 +147,9 @@ class Archives:
             self.index(path)
 
     def index(self, path: pathlib.Path) -> None:
-        script = [sys.executable, str(GATEWAY.parent / "python/bin/warcdx-gz"), "--warcdx", PROGRAM]
-        command = script if path.name.endswith(".gz") else [PROGRAM]
-        self.put(
-            path.name + ".cdxj",
-            subprocess.run([*command, "index", path], stdout=subprocess.PIPE, check=True).stdout,
-        )
+        output = io.BytesIO()
+        open_archive(path, program=PROGRAM).index(output)
+        self.put(path.name + ".cdxj", output.getvalue())
 
     def put(self, name: str, lines: bytes) -> None:
         """Writes an index of these lines."""

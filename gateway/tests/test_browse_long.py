@@ -3,10 +3,13 @@ import os
 import pathlib
 import tracemalloc
 import unittest
+import unittest.mock
 
 from . import browse_support as support
 from .browse_support import MEGABYTE, Archives, bomb, page, record, response, text_of
 from .costs import own_time
+
+from warcdx_gateway.browse import reading
 
 HOME = "http://example.com/"
 
@@ -58,12 +61,23 @@ class LongRecords(support.Pages):
             self.assertLess(own_time() - start, 20)
         self.assertLess(tracemalloc.get_traced_memory()[1], 40 * MEGABYTE)
 
-    def test_what_follows_a_record_in_its_member_is_not_read(self) -> None:
-        start = own_time()
-        text = text_of(self.get("record", **self.place_at("two.warc.gz", 0)))
-        self.assertIn("The block is as it was recorded", text)
-        self.assertIn(b"small", self.ask("payload", **self.place_at("two.warc.gz", 0)).data)
-        self.assertLess(own_time() - start, 5)
+    def test_a_member_of_several_records_has_no_page(self) -> None:
+        place = self.place_at("two.warc.gz", 0)
+        for name in ("record", "payload"):
+            text = text_of(self.get(name, 502, **place))
+            self.assertIn("The archive is damaged at byte 0: SeveralRecords.", text)
+        for what in ("record", "payload"):
+            with self.assertRaises(BrokenPipeError):
+                self.ask("download", what=what, **place).get_data()
+
+    def test_what_follows_a_record_in_its_member_takes_bounded_time(self) -> None:
+        self.get("captures", url=HOME)
+        with unittest.mock.patch.object(reading, "SILENCE", 0.05):
+            before, start = programs(), own_time()
+            text = text_of(self.get("record", 502, **self.place_at("two.warc.gz", 0)))
+            self.assertIn("The program has written nothing for 0.05 seconds.", text)
+            self.assertEqual(before, programs())
+            self.assertLess(own_time() - start, 0.5)
 
     def test_nothing_is_left_of_what_a_client_leaves(self) -> None:
         place = self.place_at("long.warc", 0)

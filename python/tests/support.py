@@ -1,4 +1,8 @@
-"""What the tests share. They run the program that the variable WARCDX names, or else `warcdx` of the PATH."""
+"""What the tests share.
+
+They run the program that the variable WARCDX names, or else `warcdx` of the PATH, and `warcdx-gz` that belongs to it.
+"""
+import gzip
 import os
 import pathlib
 import signal
@@ -27,6 +31,20 @@ LINE = (
     'com,example)/%s 20160101000000 {"url": "http://example.com/%s", "mime": "text/html", "status": "200", '
     '"digest": "-", "length": "%d", "offset": "%d", "filename": "a.warc"}\n'
 )
+RECORD = (
+    b"WARC/1.0\r\nWARC-Type: resource\r\nWARC-Record-ID: <urn:x>\r\nWARC-Date: 2016-01-01T00:00:00Z\r\n"
+    b"WARC-Target-URI: http://example.com/%d\r\nContent-Type: text/plain\r\nContent-Length: %d\r\n\r\n%s\r\n\r\n"
+)
+
+
+def resource(number: int, block: bytes = b"block") -> bytes:
+    """Returns a record of this block."""
+    return RECORD % (number, len(block), block)
+
+
+def packed(*texts: bytes) -> list[bytes]:
+    """Returns a member of gzip of each text."""
+    return [gzip.compress(text, mtime=0) for text in texts]
 
 
 def lines(count: int) -> str:

@@ -1,13 +1,9 @@
 """From a capture to its record."""
 import gzip
-import os
-import pathlib
-import subprocess
 import unittest
 from typing import Union
 
-from warcdx import Archive, Capture, Collection, NoArchive, Record, faults, open_archive, payload
-from warcdx.gz import CompressedArchive
+from warcdx import Archive, Capture, Collection, CompressedArchive, NoArchive, Record, faults, open_archive, payload
 
 from .support import ALL, LINE, PROGRAM, SAMPLES, Case
 
@@ -40,12 +36,10 @@ class Collections(Case):
         for folder, archive in ((plain, text), (packed, b"".join(map(gzip.compress, records)))):
             folder.mkdir()
             (folder / "wget.warc").write_bytes(archive)
-        script = pathlib.Path(__file__).parents[1] / "bin/warcdx-gz"
-        command = ([PROGRAM, "index"], [script, "--warcdx", os.path.abspath(PROGRAM), "index"])
         found = []
-        for folder, words in zip((plain, packed), command):
+        for folder in (plain, packed):
             with open(self.folder / "index", "wb") as output:
-                subprocess.run((*words, folder / "wget.warc"), stdout=output, check=True)
+                open_archive(folder / "wget.warc", program=PROGRAM).index(output)
             with Collection(self.folder / "index", folder, program=PROGRAM) as collection:
                 found.append([collection.record(capture) for capture in collection.index.captures(ALL)])
                 for capture, record in zip(collection.index.captures(ALL), found[-1]):

@@ -1,24 +1,18 @@
-"""Heads of any size that the program takes, in members that are unpacked in two ways."""
+"""Heads of any size that the program takes, and records where no record can be."""
 import gzip
 import io
+import pathlib
 import random
 import subprocess
 import unittest
 import unittest.mock
 import zlib
-from typing import Any
 
-from warcdx import Archive, Fault, NoArchive, faults
-from warcdx.collection import Collection
-from warcdx.gz import CompressedArchive
-from warcdx.member_records import with_head
-from warcdx.members import MOST_TEXT, PIECE, Members
-from warcdx.query import Capture
-from warcdx.record import HEAD_LIMIT, Head, _length_in, _unfolded, fields_named, size_of_record
+from warcdx import Archive, Capture, Collection, CompressedArchive, Fault, NoArchive, faults
+from warcdx.record import HEAD_LIMIT, Head, _unfolded, fields_named
 from warcdx.record_digests import _READ, RecordCheck
 
-from .support import PROGRAM, Case
-from .test_gz import packed, resource
+from .support import PROGRAM, Case, packed, resource
 
 FRONT = (
     b"WARC/1.0\r\nWARC-Type: resource\r\nWARC-Record-ID: <urn:x>\r\nWARC-Date: 2016-01-01T00:00:00Z\r\n"
@@ -34,7 +28,7 @@ def record(head: int, block: int, length: bytes = b"Content-Length: %d", noise: 
 
 
 def with_header_checksum(member: bytes) -> bytes:
-    """Returns a member whose header has a checksum, which zlib alone compares."""
+    """Returns a member whose header has a checksum."""
     header = member[:3] + b"\2" + member[4:10]
     return header + (zlib.crc32(header) & 0xFFFF).to_bytes(2, "little") + member[10:]
 
@@ -86,44 +80,6 @@ class Heads(Case):
         ):
             self.assertEqual(([(0, len(first))], [0], f"{name} {len(first)}"), self.listed(first, damaged))
 
-    def test_a_head_is_read_in_many_small_pieces_at_the_cost_of_its_bytes(self) -> None:
-        """Stored blocks of one byte each make it. The head is measured once, and not once for each piece."""
-        text = record(100_000, 50_000)
-        blocks = b"".join(b"\0\1\0\xfe\xff" + text[at : at + 1] for at in range(len(text) - 1)) + b"\1\1\0\xfe\xff" + text[-1:]
-        end = zlib.crc32(text).to_bytes(4, "little") + len(text).to_bytes(4, "little")
-        (self.folder / "a").write_bytes(b"\x1f\x8b\x08\0\0\0\0\0\0\xff" + blocks + end)
-        with open(self.folder / "a", "rb", buffering=0) as file:
-            members = Members(file, "a")
-            with unittest.mock.patch("warcdx.member_records.size_of_record", wraps=size_of_record) as measure:
-                piece, size = with_head(members, next(iter(members)))
-        self.assertEqual((len(text), 1), (size, measure.call_count))
-        self.assertLess(len(piece), len(text))
-
-
-class Lengths(unittest.TestCase):
-    def test_the_length_is_found_in_any_form(self) -> None:
-        for fields, wanted in (
-            (b"Content-Length: 12", 12),
-            (b"content-length:12\r\nA: b", 12),
-            (b"A: b\r\nCONTENT-LENGTH:\t 012 \r\nB: c", 12),
-            (b"Content-Length:\r\n 12\r\nB: c", 12),
-            (b"Content-Length: \r\n \t\r\n\t12 ", 12),
-            (b"X: Content-Length: 9\r\n content-length: 8\r\nContent-length: 12", 12),
-            (b"Content-Length: 1\r\n 2", None),
-            (b"Content-Length: +12", None),
-            (b"Content-Length: " + b"1" * 20, None),
-            (b"Content-Length: \xd9\xa1", None),
-            (b"Content-Length:", None),
-            (b"XContent-Length: 12", None),
-            (b"A: b", None),
-        ):
-            self.assertEqual(wanted, _length_in(b"WARC/1.0\r\n" + fields), fields)
-
-    def test_the_other_fields_are_not_read_for_it(self) -> None:
-        head = b"WARC/1.0\r\ncontent-length: 5\r\n" + b"a:\r\n" * 170_000
-        with unittest.mock.patch.object(Head, "fields_of", side_effect=AssertionError):
-            self.assertEqual(len(head) + 2 + 5 + 4, size_of_record(head + b"\r\n"))
-
 
 class Fields(unittest.TestCase):
     def test_chosen_fields_are_those_of_the_head(self) -> None:
@@ -156,50 +112,6 @@ def unfolded_lines(head: bytes) -> "list[str]":
     return _unfolded(head.decode(errors="surrogateescape").split("\r\n"))[1:]
 
 
-class Costs(Case):
-    def test_little_of_an_archive_is_read_that_was_compressed_as_a_whole(self) -> None:
-        """Packed bytes of noise are as many as those that it is read for."""
-        text = b"".join(resource(number, random.Random(number).randbytes(1 << 20)) for number in range(24))
-        path = self.folder / "a.warc.gz"
-        path.write_bytes(gzip.compress(text, 1))
-        for read in ("list", "verify", "index", "get", "verdict"):
-            archive, taken = CompressedArchive(path, program=PROGRAM), 0
-            usual = archive.open
-
-            def counting() -> Any:
-                file: Any = usual()
-                return Counting(file.detach() if hasattr(file, "detach") else file, count)
-
-            def count(number: int) -> None:
-                nonlocal taken
-                taken += number
-
-            calls = {"index": lambda: archive.index(io.BytesIO()), "get": lambda: archive.get(0), "verdict": lambda: archive.verdict(0)}
-            with unittest.mock.patch.object(archive, "open", counting):
-                fault = self.raises(faults.SeveralRecords, calls.get(read, lambda: list(getattr(archive, read)())))
-            self.assertEqual(0, fault.offset)
-            self.assertLess(taken, 2 * (MOST_TEXT + 2 * PIECE + (1 << 20)), read)
-
-
-class Counting(io.RawIOBase):
-    """A file that counts the bytes that are read of it."""
-
-    def __init__(self, file: Any, count: Any) -> None:
-        self._file, self._count = file, count
-
-    def readinto(self, room: Any) -> int:
-        number: int = self._file.readinto(room)
-        self._count(number)
-        return number
-
-    def seek(self, offset: int, whence: int = 0) -> int:
-        return int(self._file.seek(offset, whence))
-
-    def close(self) -> None:
-        self._file.close()
-        super().close()
-
-
 class Causes(Case):
     def test_a_member_that_ends_in_a_record_has_one_cause(self) -> None:
         """Also if other members follow, with which its record is another fault."""
@@ -218,7 +130,7 @@ class Offsets(Case):
         plain.write_bytes(resource(0))
         compressed.write_bytes(packed(resource(0))[0])
         for archive in (Archive(plain, program=PROGRAM), CompressedArchive(compressed, program=PROGRAM)):
-            size = (plain if isinstance(archive, Archive) else compressed).stat().st_size
+            size = pathlib.Path(archive.path).stat().st_size
             self.assertEqual(b"block", archive.get(0, length=size).block)
             for offset in (size, size + 1, 1 << 44, 10**18, (1 << 63) - 1, 1 << 63, 1 << 64, 10**30, -1, -size, -(1 << 64)):
                 self.raises(faults.NoRecord, archive.get, offset)

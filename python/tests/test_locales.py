@@ -8,8 +8,7 @@ import tempfile
 import unittest
 from typing import ClassVar
 
-from .support import PROGRAM, WAIT, Case, lines
-from .test_gz import packed, resource
+from .support import PROGRAM, WAIT, Case, lines, packed, resource
 
 FOLDER = pathlib.Path(__file__).resolve().parents[1]
 NAME = "\u00e9\u65e5.warc.gz"
@@ -51,31 +50,27 @@ class Locales(Case):
 
     def test_what_a_command_prints_is_the_same_in_each_locale(self) -> None:
         for name, *words in (
-            ("warcdx-gz", "index", NAME),
-            ("warcdx-gz", "index", NAME, "\u00e9.warc"),
-            ("warcdx-gz", "list", NAME, "\u00e9.warc"),
-            ("warcdx-gz", "list", "nosuch-\u00e9\n"),
-            ("warcdx-gz", "get", "7", NAME),
             ("warcdx-verify", NAME, "\u00e9.warc"),
             ("warcdx-verify", "--jobs", "2", NAME, "\u00e9.warc", "nosuch-\u00e9"),
             ("warcdx-cdx", "to", "\u00fc.cdxj"),
             ("warcdx-cdx", "to", "\u00fc.cdx"),
             ("warcdx-cdx", "from", "\u00fc.cdx", "nosuch-\u00e9"),
-            ("warcdx-gz", "--nosuch-\u00e9"),
+            ("warcdx-verify", "nosuch-\u00e9\n"),
+            ("warcdx-verify", "--nosuch-\u00e9"),
         ):
             command = (FOLDER / "bin" / name, "--warcdx", PROGRAM, *words)
             usual = self.ended("C.UTF-8", *command)
             for locale in LOCALES:
                 self.assertEqual(usual, self.ended(locale, *command), (locale, command))
-            if words == ["index", NAME]:
-                self.assertEqual(2, usual[1].count(f'"filename": "{NAME}"'.encode()))
+            if words == [NAME, "\u00e9.warc"]:
+                self.assertEqual(1, usual[1].count(f"{NAME}:\n".encode()))
                 for locale in (*LOCALES, "C", "POSIX"):
                     self.assertEqual(usual, self.ended(locale, sys.executable, *command), locale)
 
     def test_an_argument_that_is_not_utf_8_is_a_usage_error(self) -> None:
         for locale in ("C.UTF-8", *LOCALES):
-            found = self.ended(locale, FOLDER / "bin/warcdx-gz", "list", b"\xe9.warc")
-            self.assertEqual((2, b"", b"warcdx-gz: error: argument 2 isn't UTF-8\n"), found, locale)
+            found = self.ended(locale, FOLDER / "bin/warcdx-verify", "--jobs=1", b"\xe9.warc")
+            self.assertEqual((2, b"", b"warcdx-verify: error: argument 2 isn't UTF-8\n"), found, locale)
 
     def test_the_package_in_a_process_of_such_a_locale(self) -> None:
         text = (
@@ -115,11 +110,11 @@ class Locales(Case):
         code = (
             "import io, sys, warcdx\n"
             "try:\n    warcdx.CompressedArchive(sys.argv[2], program=sys.argv[1]).index(io.BytesIO(), name=sys.argv[3] or None)\n"
-            "except warcdx.Fault as fault:\n    print(fault.name)\n"
+            "except warcdx.Error as error:\n    print(getattr(error, 'name', type(error).__name__))\n"
         )
-        for name in (b"", b"\xff", b"n" * 256):
+        for name, wanted in ((b"", b"ProgramEnded\n"), (b"\xff", b"ProgramEnded\n"), (b"n" * 256, b"BadName\n")):
             done = subprocess.run((sys.executable, "-c", code, PROGRAM, path, name), cwd=FOLDER, capture_output=True, timeout=WAIT)
-            self.assertEqual((b"BadName\n", b""), (done.stdout, done.stderr), name)
+            self.assertEqual((wanted, b""), (done.stdout, done.stderr), name)
 
 
 if __name__ == "__main__":

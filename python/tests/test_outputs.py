@@ -5,19 +5,15 @@ import os
 import pathlib
 import subprocess
 import sys
-import tempfile
 import time
 import unittest
-import unittest.mock
 from typing import IO, Any
 
-from warcdx import command
+from warcdx import CompressedArchive
 from warcdx.cdx import write_cdx
-from warcdx.gz import CompressedArchive
 from warcdx.merging import merge
 
-from .support import PROGRAM, WAIT, Case, lines
-from .test_gz import packed, resource
+from .support import PROGRAM, WAIT, Case, lines, packed, resource
 
 FOLDER = pathlib.Path(__file__).resolve().parents[1]
 CDX = "com,example)/ 20160919172024 http://example.com/ text/html 200 - - - 1 0 a.warc"
@@ -32,28 +28,26 @@ class Pipes(Case):
         os.mkfifo(self.folder / "pipe")
         ends = list(itertools.accumulate(map(len, members)))
         for size in (64, ends[0] - 1, *ends[:-1], ends[2] + 100):
-            command = f"prlimit --fsize={size} {sys.executable} {FOLDER}/bin/warcdx-gz --warcdx {PROGRAM}"
-            for words in ("list", "verify", "index"):
-                for shell in (f"cat a.warc.gz > pipe & {command} {words} pipe", f"cat a.warc.gz | {command} {words} /dev/stdin"):
-                    done = subprocess.run(("sh", "-c", shell), cwd=self.folder, capture_output=True, timeout=WAIT)
-                    self.assertEqual((3, b""), (done.returncode, done.stdout), (size, shell))
-                    self.assertIn(b"warcdx-gz: File too large\n", done.stderr, (size, shell))
+            command = f"prlimit --fsize={size} {sys.executable} {FOLDER}/bin/warcdx-verify --warcdx {PROGRAM}"
+            for shell in (f"cat a.warc.gz > pipe & {command} pipe", f"cat a.warc.gz | {command} /dev/stdin"):
+                done = subprocess.run(("sh", "-c", shell), cwd=self.folder, capture_output=True, timeout=WAIT)
+                self.assertEqual((3, b""), (done.returncode, done.stdout), (size, shell))
+                self.assertEqual(b"warcdx-verify: File too large\n", done.stderr, (size, shell))
 
-    def test_no_signal_comes_between_the_file_of_a_copy_and_the_removal_of_its_name(self) -> None:
-        """The first temporary file of a process has a name for a moment."""
-        deferrals = []
-
-        def making(**options: Any) -> IO[bytes]:
-            deferrals.append(command._signals._deferrals)
-            return usual(**options)
-
-        usual = tempfile.TemporaryFile
+    def test_a_pipe_is_verified_in_either_form(self) -> None:
+        """The name that is shown is the one that was given."""
         os.mkfifo(self.folder / "pipe")
-        (self.folder / "a.warc.gz").write_bytes(packed(resource(1))[0])
-        with subprocess.Popen(("cp", "a.warc.gz", "pipe"), cwd=self.folder):
-            with unittest.mock.patch("tempfile.TemporaryFile", making), command._signals.raising():
-                CompressedArchive(self.folder / "pipe", program=PROGRAM).open().close()
-        self.assertEqual([1], deferrals)
+        texts = [resource(0), resource(1)]
+        for text, second in ((b"".join(texts), len(texts[0])), (b"".join(packed(*texts)), len(packed(texts[0])[0]))):
+            (self.folder / "text").write_bytes(text)
+            command = f"{sys.executable} {FOLDER}/bin/warcdx-verify --warcdx {PROGRAM}"
+            for shell in (f"cat text > pipe & {command} pipe", f"cat text | {command} /dev/stdin", f"{command} /dev/stdin < text"):
+                done = subprocess.run(("sh", "-c", shell), cwd=self.folder, capture_output=True, timeout=WAIT)
+                self.assertEqual(f"0 absent absent\n{second} absent absent\n".encode(), done.stdout, shell)
+                self.assertRegex(done.stderr, rb"\Awarcdx-verify: (pipe|/dev/stdin): no digest was compared\n\Z")
+            (self.folder / "text").write_bytes(text[:-1])
+            done = subprocess.run(("sh", "-c", f"cat text > pipe & {command} pipe"), cwd=self.folder, capture_output=True, timeout=WAIT)
+            self.assertRegex(done.stdout, rf"\A0 absent absent\nfault {second} [A-Za-z]+\n\Z".encode())
 
 
 class Limits(Case):
@@ -69,24 +63,16 @@ class Limits(Case):
 
     def test_temporary_files_that_can_not_grow_are_said(self) -> None:
         """The program's own message about its output has no reason."""
-        for name in ("a.warc.gz", "b.warc.gz"):
-            (self.folder / name).write_bytes(b"".join(packed(*(resource(number) for number in range(300)))))
         self.put(f"{CDX}\n" * 300, "a.cdx")
-        for words in (
-            ("warcdx-gz", "index", "a.warc.gz"),
-            ("warcdx-gz", "index", "a.warc.gz", "b.warc.gz"),
-            ("warcdx-cdx", "from", "a.cdx"),
-        ):
-            for size in (64, 1000, 4096, 20_000):
-                said = words[0].encode() + b": File too large\n"
-                self.assertEqual((3, said, []), self.limited(f"--fsize={size}", *words), (words, size))
+        for size in (64, 1000, 4096, 20_000):
+            found = self.limited(f"--fsize={size}", "warcdx-cdx", "from", "a.cdx")
+            self.assertEqual((3, b"warcdx-cdx: File too large\n", []), found, size)
 
     def test_few_open_files_leave_no_folder(self) -> None:
         for name in ("a.warc.gz", "b.warc.gz"):
             (self.folder / name).write_bytes(b"".join(packed(resource(0), resource(1))))
         index = self.put(lines(3))
         for words in (
-            ("warcdx-gz", "index", "a.warc.gz", "b.warc.gz"),
             ("warcdx-verify", "--jobs", "2", "a.warc.gz", "b.warc.gz"),
             ("warcdx-cdx", "to", str(index), "/dev/null"),
         ):
@@ -170,13 +156,14 @@ class Waiting(Case):
         (self.folder / "a.warc.gz").write_bytes(b"".join(packed(*map(resource, range(8000)))))
         reading_end, writing_end = os.pipe()
         os.set_blocking(writing_end, False)
-        words = (FOLDER / "bin/warcdx-gz", "--warcdx", PROGRAM, "list", "a.warc.gz")
+        words = (FOLDER / "bin/warcdx-verify", "--warcdx", PROGRAM, "a.warc.gz")
         process = self.ended(words, stdout=writing_end, stderr=subprocess.PIPE)
         os.close(writing_end)
         with open(reading_end, "rb") as pipe:
             time.sleep(0.5)
             output = pipe.read()
-        self.assertEqual((b"", 0, 8000), (process.communicate(timeout=WAIT)[1], process.returncode, output.count(b"\n")))
+        self.assertEqual(b"warcdx-verify: a.warc.gz: no digest was compared\n", process.communicate(timeout=WAIT)[1])
+        self.assertEqual((1, 8000), (process.returncode, output.count(b"\n")))
 
 
 if __name__ == "__main__":

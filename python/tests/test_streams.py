@@ -5,11 +5,9 @@ import tracemalloc
 import unittest
 import zlib
 from collections.abc import Iterator
-from typing import Union
 
-from warcdx import Archive, Unreadable, faults, payload
+from warcdx import Archive, CompressedArchive, Unreadable, faults, open_archive, payload
 from warcdx.codings import Buffer, Limits, decoded
-from warcdx.gz import CompressedArchive, open_archive
 from warcdx.record import HttpHead
 
 from .support import PROGRAM, SAMPLES, Case
@@ -17,7 +15,6 @@ from .support import PROGRAM, SAMPLES, Case
 WGET = SAMPLES / "wget.warc"
 GONE = 11387  # the offset of a response in it, whose body is `gone\n`
 MEGABYTE = 1 << 20
-Either = Union[Archive, CompressedArchive]
 
 
 def record(block: bytes, kind: bytes = b"application/http; msgtype=response", more: bytes = b"") -> bytes:
@@ -39,13 +36,13 @@ def head(*fields: str) -> bytes:
 class Streams(Case):
     """The same records from a plain archive and a compressed one."""
 
-    def archives(self, *records: bytes) -> list[tuple[Either, list[int]]]:
+    def archives(self, *records: bytes) -> list[tuple[Archive, list[int]]]:
         """Returns an archive of these records, plain and compressed, each with the records' offsets."""
         plain, packed = self.folder / "a.warc", self.folder / "a.warc.gz"
         members = [gzip.compress(each) for each in records]
         plain.write_bytes(b"".join(records))
         packed.write_bytes(b"".join(members))
-        found: list[tuple[Either, list[int]]] = []
+        found: list[tuple[Archive, list[int]]] = []
         for path, parts in ((plain, list(records)), (packed, members)):
             offsets = [0, *itertools.accumulate(map(len, parts))][:-1]
             found.append((open_archive(path, program=PROGRAM), offsets))

@@ -6,6 +6,7 @@ import gzip
 import hashlib
 import os
 import pathlib
+import random
 import resource
 import signal
 import subprocess
@@ -169,6 +170,21 @@ class Files(Case):
             path.write_bytes(text * 3)
             checked = check_archive(open_archive(path, program=PROGRAM))
             self.assertEqual(0, next(checked).offset)  # the third record isn't read yet
+            with open(path, "r+b") as file:
+                file.seek(2 * len(text))
+                file.write(last)
+                file.truncate()
+            self.assertEqual(len(text), next(checked).offset)
+            found = self.raises(faults.BY_NAME[name], next, checked)
+            self.assertEqual((str(path), 2 * len(text)), (found.file, found.offset))
+
+    def test_a_compressed_archive_that_is_changed_meanwhile(self) -> None:
+        path = self.folder / "a.warc.gz"
+        text = gzip.compress(record(random.Random(1).randbytes(100_000), OF_ABC[0]), mtime=0)
+        for last, name in ((b"", "ShortHead"), (text[:90_000], "CutMember"), (text[:90_000] + bytes(len(text)), "Read"), (b"x" * len(text), "Read")):
+            path.write_bytes(text * 3)
+            checked = check_archive(open_archive(path, program=PROGRAM))
+            self.assertEqual(0, next(checked).offset)
             with open(path, "r+b") as file:
                 file.seek(2 * len(text))
                 file.write(last)

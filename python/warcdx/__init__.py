@@ -1,6 +1,6 @@
 """Queries over the indexes of web archives, and their records, by the program `warcdx`."""
 from . import faults, refusals
-from .archive import Archive, Listed, Verified
+from .archive import Archive, CompressedArchive, Listed, Verified, open_archive
 from .collection import Collection
 from .errors import (
     Error,
@@ -14,7 +14,6 @@ from .errors import (
     ReplyTooLate,
     ReplyTooLong,
 )
-from .gz import CompressedArchive, open_archive
 from .index import Index
 from .query import FIELDS, Capture, Page
 from .record import Record, Unreadable, payload

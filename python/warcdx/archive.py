@@ -1,17 +1,21 @@
-"""The records of an archive, by `warcdx list`, `verify` and `get`."""
+"""The records of an archive, by `list`, `verify`, `index` and `get` of the program."""
 import contextlib
+import os
 import re
+import stat
 from collections.abc import Iterator
 from dataclasses import dataclass
 from typing import IO, Optional
 
 from .command import memory_file
-from .errors import ProgramError, fault
-from .faults import NoRecord
-from .program import Path, find_program, operand, running, started
+from .errors import Fault, ProgramError, fault
+from .faults import CannotOpen, NoRecord, Read
+from .program import Path, find_packed_program, find_program, operand, running, started, write_output
 from .record import Record, RecordStream, Unreadable
 
 FAULTY = 1  # the exit status after a fault that is on the output, and after a digest that differs
+MAGIC = b"\x1f\x8b"  # what a compressed archive begins with, and each of its members
+_INPUT = "-"
 _MOST = (1 << 63) - 1  # bytes before the end of a record
 _VERDICT = re.compile(b"0 ([a-z0-9-]+)\n")
 _LISTED = re.compile(b"([0-9]+) ([0-9]+) ([a-z]+)\n")
@@ -21,7 +25,10 @@ _FAULT = re.compile(b"fault ([0-9]+) ([A-Za-z0-9]+)\n")
 
 @dataclass(frozen=True)
 class Listed:
-    """A record as `list` prints it: its offset and length in bytes, and its type in lower case."""
+    """A record as `list` prints it: its offset and length in bytes, and its type in lower case.
+
+    In a compressed archive, offset and length are those of the record's member.
+    """
 
     offset: int
     length: int
@@ -37,7 +44,7 @@ class Verified:
 
 
 class Archive:
-    """A plain archive. Compressed ones are read by `warcdx.gz`.
+    """A plain archive, which `warcdx` reads. `open_archive` opens one of either form.
 
     The iterators read the archive as they are advanced. If it is damaged, they raise the class of
     `warcdx.faults` that is named as the program names the cause, after all records before the damage.
@@ -57,26 +64,50 @@ class Archive:
         for found in self._lines("verify", _VERIFIED):
             yield Verified(int(found[1]), found[2])
 
+    def index(self, output: IO[bytes], *, name: Optional[str] = None, types: Optional[str] = None) -> None:
+        """Writes an index of the captures. `types` are those of `--types` of the program.
+
+        The archive's file name in it is the part of its path behind the last `/`, or else of `name`. If the archive
+        is at fault, the captures before the fault are written first.
+        """
+        command = (self._program, "index", *(() if types is None else ("--types", types)))
+        if name is None:
+            write_output(output, *command, self.path)
+            return
+        with self._opened() as file:
+            try:
+                write_output(output, *command, "--name", operand(name), _INPUT, stdin=file.fileno())
+            except Fault as found:
+                found.file = self.path if found.file == _INPUT else found.file
+                raise
+
     def get(self, offset: int, *, length: Optional[int] = None) -> Record:
         """Returns the record that begins at an offset, in bytes from the start of the archive.
 
-        The program reads the archive from its start to the end of the record. If the `length` of the record is
-        given, in bytes as an index has it, nothing before the record is read. Raises `faults.NoRecord` if no record,
-        or one of another length, begins at the offset, or else the archive's fault. The record is held in memory.
+        A plain archive is read from its start to the end of the record, and a compressed one from the offset on. If
+        the `length` of the record or of its member is given, in bytes as an index has it, nothing before it is read.
+        Raises `faults.NoRecord` if no record, or one of another length, begins at the offset, or else the archive's
+        fault. The record is held in memory.
         """
         with self.stream(offset, length=length) as stream:
             record = b"".join(stream.whole())
         return Record.read(record)
 
+    def copy(self, offset: int, output: IO[bytes], *, length: Optional[int] = None) -> None:
+        """Writes the record that begins at an offset. Raises as `get` does, after a part of it may be written."""
+        write_output(output, *self._get(offset, length))
+
     @contextlib.contextmanager
-    def stream(self, offset: int, *, length: Optional[int] = None) -> Iterator[RecordStream]:
+    def stream(
+        self, offset: int, *, length: Optional[int] = None, seconds: Optional[float] = None
+    ) -> Iterator[RecordStream]:
         """Opens the record that begins at an offset, as `get` does, to be read in pieces.
 
         It needn't be read to its end. If it is, and the archive is damaged in it, the fault is raised at the end.
+        A member is unpacked to its end, however much follows the record. If the program is silent for more than
+        `seconds`, it is ended, and ReplyTooLate is raised.
         """
-        self._expect_possible(offset, length or 0)
-        only = () if length is None else ("--length", str(length))
-        with running(self._program, "get", *only, str(offset), self.path) as output:
+        with running(*self._get(offset, length), seconds=seconds) as output:
             record = RecordStream.read(output)
             if record is not None:
                 yield record
@@ -85,8 +116,7 @@ class Archive:
 
     def verdict(self, offset: int) -> str:
         """Returns the verdict of `verify` on the record that begins at an offset, which alone is read whole."""
-        self._expect_possible(offset)
-        with running(self._program, "get", str(offset), self.path) as record:
+        with running(*self._get(offset, None)) as record:
             verdict = self._verdict_on(record)
         if verdict is None:
             raise Unreadable("the program has given no verdict")
@@ -94,17 +124,28 @@ class Archive:
 
     def _verdict_on(self, record: IO[bytes]) -> Optional[str]:
         """Returns the verdict on a record that a program writes, or None if the record or the verdict isn't whole."""
-        command = (self._program, "verify", "-")
+        command = (self._program, "verify", _INPUT)
         with memory_file() as said, started(command, said, record.fileno()) as process:
             assert process.stdout is not None
             found = _VERDICT.fullmatch(process.stdout.read())
             is_whole = process.wait() in (0, FAULTY)
         return found[1].decode() if found and is_whole else None
 
-    def _expect_possible(self, offset: int, length: int = 0) -> None:
-        """Raises NoRecord for an offset or a length that no record has, and the program refuses as an argument."""
-        if not (0 <= offset <= _MOST and 0 <= length <= _MOST):
+    def _get(self, offset: int, length: Optional[int]) -> tuple[str, ...]:
+        """Returns the command that writes a record.
+
+        Raises NoRecord for an offset or a length that no record has, and the program refuses as an argument.
+        """
+        if not (0 <= offset <= _MOST and 0 <= (length or 0) <= _MOST):
             raise NoRecord("NoRecord", self.path)
+        only = () if length is None else ("--length", str(length))
+        return self._program, "get", *only, str(offset), self.path
+
+    def _opened(self) -> IO[bytes]:
+        try:
+            return open(self.path, "rb", buffering=0)
+        except (OSError, ValueError) as error:
+            raise CannotOpen("CannotOpen", self.path) from error
 
     def _lines(self, command: str, pattern: "re.Pattern[bytes]") -> Iterator[tuple[str, ...]]:
         """Yields each line of a report with its groups."""
@@ -121,3 +162,41 @@ class Archive:
             raise fault(found[2].decode(), self.path, int(found[1]))
         if line.endswith(b"\n"):
             raise ProgramError(f"warcdx {command} has written {line!r:.100}")
+
+
+class CompressedArchive(Archive):
+    """An archive that `warcdx-gz` reads: compressed, each record a member of gzip of its own, or plain.
+
+    `warcdx-gz` stands beside `program`, which may be itself, or else on the PATH. The offset of a fault is that of the
+    member. Further faults are NoMember, BadMember, CutMember and SeveralRecords of `warcdx.faults`.
+    """
+
+    def __init__(self, path: Path, *, program: str = "warcdx") -> None:
+        super().__init__(path, program=find_packed_program(program))
+
+
+def open_archive(path: Path, *, program: str = "warcdx") -> Archive:
+    """Returns an archive, which is compressed if its first bytes are those of gzip. Raises CannotOpen or Read.
+
+    What can be read only once, such as a pipe, isn't looked at. `warcdx-gz` reads it, in either form.
+    """
+    first = _first_bytes(operand(path))
+    if first is None or first and MAGIC.startswith(first):
+        return CompressedArchive(path, program=program)
+    return Archive(path, program=program)
+
+
+def _first_bytes(path: str) -> Optional[bytes]:
+    """Returns the first bytes of a file, or None of a pipe or another device."""
+    try:
+        mode = os.stat(path).st_mode
+        if stat.S_ISFIFO(mode) or stat.S_ISCHR(mode):
+            return None
+        file = open(path, "rb", buffering=0)
+    except (OSError, ValueError) as error:
+        raise CannotOpen("CannotOpen", path) from error
+    with file:
+        try:
+            return file.read(len(MAGIC))
+        except OSError as error:
+            raise Read("Read", path) from error

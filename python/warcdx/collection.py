@@ -5,9 +5,8 @@ from collections.abc import Mapping, Sequence
 from types import TracebackType
 from typing import Optional, Union
 
-from .archive import Archive
+from .archive import Archive, open_archive
 from .errors import NoArchive
-from .gz import CompressedArchive, open_archive
 from .index import Index
 from .program import Path
 from .query import Capture
@@ -56,7 +55,7 @@ class Collection:
         """Opens the record of a capture, to be read in pieces as by `Archive.stream`. Raises as `record` does."""
         return self.archive(capture.filename).stream(capture.offset, length=capture.length)
 
-    def archive(self, name: str) -> Union[Archive, CompressedArchive]:
+    def archive(self, name: str) -> Archive:
         """Returns the archive of a file name in an index. Raises NoArchive, or `faults.CannotOpen`."""
         return open_archive(self.path(name), program=self._program)
 

@@ -98,11 +98,11 @@ class Fault(Error):
         return f"{self.file}: {self.name}{place}" if self.file is not None else self.name + place
 
 
-_FAULT_AT = re.compile(r"warcdx: (.*): fault ([0-9]+) ([A-Za-z0-9]+)\n?", re.DOTALL)
-_LINE_AT = re.compile(r"warcdx: (.*): (BadLine|OutOfOrder) ([0-9]+)\n?", re.DOTALL)
-_QUERY = re.compile(r"warcdx: query: ([A-Za-z0-9]+)\n?")
-_FILE = re.compile(r"warcdx: (.*): ([A-Za-z0-9]+|cannot open)\n?", re.DOTALL)
-_ALONE = re.compile(r"warcdx: ([A-Za-z0-9]+|cannot flush)\n?")
+_FAULT_AT = re.compile(r"warcdx(?:-gz)?: (.*): fault ([0-9]+) ([A-Za-z0-9]+)\n?", re.DOTALL)
+_LINE_AT = re.compile(r"warcdx(?:-gz)?: (.*): (BadLine|OutOfOrder) ([0-9]+)\n?", re.DOTALL)
+_QUERY = re.compile(r"warcdx(?:-gz)?: query: ([A-Za-z0-9]+)\n?")
+_FILE = re.compile(r"warcdx(?:-gz)?: (.*): ([A-Za-z0-9]+|cannot open)\n?", re.DOTALL)
+_ALONE = re.compile(r"warcdx(?:-gz)?: ([A-Za-z0-9]+|cannot flush)\n?")
 _ADVICE = re.compile(r"^  .*\n?", re.MULTILINE)  # the second line of a message
 _NAMES = {"cannot open": "CannotOpen", "cannot flush": "CannotFlush"}
 

@@ -105,12 +105,8 @@ class Memory(Fault):
 # Those of compressed archives. Their offset is where the member begins in the file.
 
 
-class NotCompressed(Fault):
-    """The file doesn't begin with a member of gzip."""
-
-
 class NoMember(Fault):
-    """The bytes after a member aren't a member of gzip."""
+    """No member of gzip begins here."""
 
 
 class BadMember(Fault):
@@ -123,10 +119,6 @@ class CutMember(Fault):
 
 class SeveralRecords(Fault):
     """The member holds more than one record."""
-
-
-class SeveralMembers(Fault):
-    """The record goes on in the next member."""
 
 
 BY_NAME: dict[str, type[Fault]] = {
@@ -157,11 +149,9 @@ BY_NAME: dict[str, type[Fault]] = {
         Write,
         CannotFlush,
         Memory,
-        NotCompressed,
         NoMember,
         BadMember,
         CutMember,
         SeveralRecords,
-        SeveralMembers,
     )
 }

@@ -4,11 +4,9 @@ from collections.abc import Sequence
 from typing import IO
 
 from .command import temporary_folder
-from .program import Path, find_program, operand, running
-from .streams import whole
+from .program import Path, find_program, operand, write_output
 
 MOST = 1000  # indexes that are merged at a time: the program takes 1,024, and many systems as many open files
-_PIECE = 1 << 20
 
 
 def merge(indexes: Sequence[Path], output: IO[bytes], *, program: str = "warcdx") -> None:
@@ -27,11 +25,3 @@ def _merge_group(indexes: Sequence[Path], path: pathlib.Path, program: str) -> p
     with open(path, "wb") as group:
         merge(indexes, group, program=program)
     return path
-
-
-def write_output(output: IO[bytes], *command: str) -> None:
-    """Runs the program, and writes what it prints to an output."""
-    output = whole(output)
-    with running(*command) as pipe:
-        while piece := pipe.read(_PIECE):
-            output.write(piece)

@@ -2,8 +2,10 @@
 import contextlib
 import ctypes
 import functools
+import io
 import os
 import re
+import select
 import shutil
 import signal
 import subprocess
@@ -14,19 +16,22 @@ from collections.abc import Callable, Iterator
 from typing import IO, Any, Optional, Union
 
 from .command import deferred, memory_file, reserve
-from .errors import NO_STATUS, Error, Fault, ProgramMissing, ProgramTooOld, error_of
+from .errors import NO_STATUS, Error, Fault, ProgramMissing, ProgramTooOld, ReplyTooLate, error_of
+from .streams import whole
 
 Path = Union[str, os.PathLike[str]]
 
+PACKED = "warcdx-gz"  # the program that reads compressed archives too
 LEAST_VERSION = (0, 1, 0)
 _PARENT_DEATH_SIGNAL = 1  # PR_SET_PDEATHSIG of prctl(2)
 _ROOM = 1 << 16  # bytes, more than the block of a file that the program has begun
+_PIECE = 1 << 20  # bytes of an output
 _PAUSE = 0.01  # seconds between two looks at a program that may end
-_HELP = re.compile(rb"warcdx ([0-9]+)\.([0-9]+)\.([0-9]+)")
+_HELP = re.compile(rb"(warcdx|warcdx-gz) ([0-9]+)\.([0-9]+)\.([0-9]+)")
 
 
 def find_program(name: str) -> str:
-    """Returns the path of a program that is warcdx, and not too old.
+    """Returns the path of a program that is warcdx or warcdx-gz, and not too old.
 
     A name without `/` is looked up on the PATH, and then in the folder of Python. Raises ProgramMissing or
     ProgramTooOld.
@@ -41,8 +46,25 @@ def find_program(name: str) -> str:
     return path
 
 
+def find_packed_program(name: str) -> str:
+    """Returns the path of warcdx-gz, from the name of either program. Raises as `find_program` does.
+
+    If it is that of warcdx, warcdx-gz is in the same folder, or else where `find_program` finds it.
+    """
+    return find_program(packed_program_of(find_program(name)))
+
+
+def packed_program_of(path: str) -> str:
+    """Returns the path of warcdx-gz from that of either program, or its name alone if it isn't in the same folder."""
+    if check_version(path) == PACKED:
+        return path
+    beside = os.path.join(os.path.dirname(path), PACKED)
+    return beside if os.access(beside, os.X_OK) else PACKED
+
+
 @functools.lru_cache(maxsize=None)
-def check_version(path: str) -> None:
+def check_version(path: str) -> str:
+    """Returns which of the programs a file is. Raises ProgramMissing or ProgramTooOld."""
     try:
         done = subprocess.run(
             (path, "--help"), stdin=subprocess.DEVNULL, stdout=subprocess.PIPE, stderr=subprocess.DEVNULL
@@ -52,10 +74,11 @@ def check_version(path: str) -> None:
     found = _HELP.match(done.stdout)
     if not found:
         raise ProgramMissing(f"{path}: not the program warcdx")
-    version = tuple(map(int, found.groups()))
+    version = tuple(map(int, found.groups()[1:]))
     if version < LEAST_VERSION:
         need = ".".join(map(str, LEAST_VERSION))
         raise ProgramTooOld(f"{path}: version {'.'.join(map(str, version))}, but {need} is needed")
+    return found[1].decode()
 
 
 def operand(path: Path) -> str:
@@ -110,16 +133,15 @@ class Process(subprocess.Popen[bytes]):
 def start(
     command: tuple[str, ...],
     said: IO[bytes],
-    stdin: int,
+    stdin: Optional[int],
     stdout: Union[int, IO[bytes]] = subprocess.PIPE,
-    room: int = -1,
 ) -> Process:
-    """Starts the program, whose standard error goes to the file `said`. A pipe to it has a buffer of `room` bytes.
+    """Starts the program, whose standard error goes to the file `said`.
 
     A program that the main thread has started ends with this process, also if that is killed.
     """
     try:
-        return Process(command, room, stdin=stdin, stdout=stdout, stderr=said, preexec_fn=_ending_with_starter())
+        return Process(command, stdin=stdin, stdout=stdout, stderr=said, preexec_fn=_ending_with_starter())
     except OSError as error:
         raise ProgramMissing(f"{command[0]}: {error.strerror}") from error
     except subprocess.SubprocessError as error:  # the new process had no memory to do what it does first
@@ -150,16 +172,15 @@ def _system_library() -> ctypes.CDLL:
 def started(
     command: tuple[str, ...],
     said: IO[bytes],
-    stdin: int,
+    stdin: Optional[int],
     stdout: Union[int, IO[bytes]] = subprocess.PIPE,
-    room: int = -1,
 ) -> Iterator[Process]:
     """Starts the program as `start` does, and ends it at the end of the block, also if a signal ends the command."""
     process = None
     try:
         with reserve:
             with deferred():
-                process = start(command, said, stdin, stdout, room)
+                process = start(command, said, stdin, stdout)
             yield process
     finally:
         if process is not None:
@@ -203,15 +224,47 @@ def fault_of(process: Process, said: IO[bytes], output: IO[bytes]) -> Optional[F
     raise reported
 
 
-@contextlib.contextmanager
-def running(*command: str, good: tuple[int, ...] = (0,)) -> Iterator[IO[bytes]]:
-    """Runs the program without an input, and yields its output.
+class _TimedOutput(io.RawIOBase):
+    """The output of a program that has to write the next piece, or end, within `seconds` each time."""
 
+    def __init__(self, pipe: IO[bytes], seconds: float) -> None:
+        self._number = pipe.fileno()
+        self._seconds = seconds
+        self._poll = select.poll()
+        self._poll.register(self._number, select.POLLIN)
+
+    def readable(self) -> bool:
+        return True
+
+    def readinto(self, room: "bytearray | memoryview") -> int:  # type: ignore[override]
+        if not self._poll.poll(self._seconds * 1000):
+            raise ReplyTooLate(f"the program has written nothing for {self._seconds:g} seconds")
+        return os.readv(self._number, [room])
+
+
+@contextlib.contextmanager
+def running(
+    *command: str, good: tuple[int, ...] = (0,), stdin: Optional[int] = None, seconds: Optional[float] = None
+) -> Iterator[IO[bytes]]:
+    """Runs the program, and yields its output, of which each piece comes within `seconds`, or ReplyTooLate is raised.
+
+    Its standard input is that of this process, in which a path such as `/dev/stdin` may name a file, or `stdin`.
     If the output was read to its end, raises what the program has reported, unless its exit status is one
     of the good ones. A program whose output isn't read to its end is ended.
     """
-    with memory_file() as said, started(command, said, subprocess.DEVNULL) as process:
+    with memory_file() as said, started(command, said, stdin) as process:
         assert process.stdout is not None
-        yield process.stdout
-        if not process.stdout.read(1) and process.wait() not in good:
+        output: IO[bytes] = process.stdout
+        if seconds is not None:
+            output = io.BufferedReader(_TimedOutput(process.stdout, seconds))
+        yield output
+        if not output.read(1) and process.wait() not in good:
             raise end_of(process, said)
+
+
+def write_output(output: IO[bytes], *command: str, stdin: Optional[int] = None) -> None:
+    """Runs the program, and writes what it prints to an output."""
+    output = whole(output)
+    with running(*command, stdin=stdin) as pipe:
+        while piece := pipe.read(_PIECE):
+            output.write(piece)

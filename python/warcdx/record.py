@@ -16,12 +16,7 @@ _PIECE = 1 << 16
 _BLANKS = (" ", "\t")
 _HTTP_LINE_BREAK = re.compile(r"\r?\n")
 _LENGTH = re.compile("[0-9]{1,19}")
-_USUAL_HEAD = 2048  # bytes in which most heads end
-_LAST_LENGTH = b"\r\nContent-Length: "  # how the last field begins of most heads
-_USUAL_LENGTH = re.compile(rb"\r\nContent-Length: ([0-9]{1,19})\r\n(?![ \t])")
-_LENGTH_NAME = re.compile(rb"\r\n(?i:Content-Length):")
 _END_OF_FIELD = re.compile(rb"\r\n(?![ \t])")
-_CLOSINGS = 2 * len(CLOSING)
 
 
 Fields = tuple[tuple[str, str], ...]
@@ -149,6 +144,7 @@ class RecordStream:
         while left and (piece := self._rest.read(min(left, _PIECE))):
             left -= len(piece)
             yield piece
+        self._rest.read(len(CLOSING))  # so that the record was read to its end, where its member is judged
 
     @functools.cached_property
     def http_head(self) -> Optional[bytes]:
@@ -166,35 +162,6 @@ class RecordStream:
     def stored_payload(self, limits: Limits = UNLIMITED) -> Iterator[bytes]:
         """Yields the body without its transfer codings only, such as chunks. Its content codings stay."""
         return _payload(self.head, self.http_head, self._body, limits, transfer_codings)
-
-
-def size_of_record(start: Union[bytes, bytearray, memoryview]) -> Optional[int]:
-    """Returns the size of the record that begins so, in bytes, or None if its head isn't whole or has no length.
-
-    If `warcdx` accepts the record, this is its size.
-    """
-    text = bytes(start[:_USUAL_HEAD])
-    end = text.find(CLOSING)
-    if end < 0:
-        text = bytes(start[:HEAD_LIMIT])
-        end = text.find(CLOSING)
-        if end < 0:
-            return None
-    at = text.rfind(_LAST_LENGTH, 0, end)
-    digits = text[at + len(_LAST_LENGTH) : end]
-    if at >= 0 and digits.isdigit() and len(digits) < 20:
-        return end + int(digits) + _CLOSINGS
-    length = _length_in(text[:end])
-    return None if length is None else end + length + _CLOSINGS
-
-
-def _length_in(head: bytes) -> Optional[int]:
-    """Returns the length in a head. No other field is read."""
-    found = _USUAL_LENGTH.search(head)
-    if found:
-        return int(found[1])
-    _, value = next(fields_named(head, _LENGTH_NAME), ("", ""))
-    return int(value) if _LENGTH.fullmatch(value) else None
 
 
 def fields_named(head: bytes, names: "re.Pattern[bytes]") -> Iterator[tuple[str, str]]:

@@ -33,7 +33,7 @@ from typing import Any, BinaryIO, Optional
 from . import __version__, update_task
 from .command import FAILED, Parser, printable, report, run
 from .errors import Error
-from .program import find_program
+from .program import PACKED, find_program, packed_program_of
 from .update import Outcome, Programs, Progress, Said, Update
 from .update_files import CannotUpdate
 from .update_reports import Action, Report
@@ -75,7 +75,7 @@ def read_arguments(arguments: Optional[Sequence[str]]) -> argparse.Namespace:
     add("--quiet", action="store_true", help="print nothing but faults")
     add("--dry-run", action="store_true", help="print what would be indexed, removed and kept, and change nothing")
     add("--warcdx", default="warcdx", metavar="PROGRAM", help="the program for plain archives (%(default)s)")
-    add("--warcdx-gz", default=compressed_program(), metavar="PROGRAM", help="the program for compressed archives (warcdx-gz)")
+    add("--warcdx-gz", metavar="PROGRAM", help="the program for compressed archives (warcdx-gz beside the other one, or of the PATH)")
     add("folder", metavar="FOLDER")
     add("index", metavar="INDEX")
     return parser.parse(arguments)
@@ -103,18 +103,14 @@ def removal_of(text: str) -> Removal:
     return Removal(int(found[1]), bool(found[2]))
 
 
-def compressed_program() -> str:
-    """Returns warcdx-gz of the folder that has this program, or else its name, which is looked up on the PATH."""
-    beside = os.path.join(os.path.dirname(os.path.realpath(sys.argv[0])), "warcdx-gz")
-    return beside if os.access(beside, os.X_OK) else "warcdx-gz"
-
-
 def programs_of(given: argparse.Namespace) -> Programs:
     """Returns the programs that the tasks run. On a cluster, a name without `/` is that of a program on the worker's PATH."""
-    found = find_program(given.warcdx)
-    plain = given.warcdx if given.scheduler and os.sep not in given.warcdx else found
-    compressed = os.path.abspath(given.warcdx_gz) if os.sep in given.warcdx_gz else given.warcdx_gz
-    return Programs((plain,), (compressed, "--warcdx", plain))
+    plain, packed = find_program(given.warcdx), given.warcdx_gz
+    if given.scheduler and os.sep not in given.warcdx:
+        plain, packed = given.warcdx, packed or PACKED
+    elif packed is None:
+        packed = packed_program_of(plain)
+    return Programs((plain,), (os.path.abspath(packed) if os.sep in packed else packed,))
 
 
 @contextlib.contextmanager

@@ -27,15 +27,15 @@ import contextlib
 import functools
 import os
 import re
-from collections.abc import Sequence
-from typing import BinaryIO, Optional, Union
+import shutil
+from collections.abc import Iterator, Sequence
+from typing import BinaryIO, Optional
 
 from . import __version__
-from .archive import Archive
-from .command import FAILED, Parser, printable, report, run
+from .archive import Archive, open_archive
+from .command import FAILED, Parser, printable, report, run, temporary_folder
 from .errors import Error, Fault
 from .faults import CannotFlush, CannotOpen, Input, Memory, Read, Write
-from .gz import CompressedArchive, open_archive
 from .record_digests import Verdict
 from .verifying import check_archive
 from .workers import failure, run_in_order
@@ -52,7 +52,8 @@ def read_arguments(arguments: Optional[Sequence[str]]) -> argparse.Namespace:
     parser.add_argument("--version", action="version", version=f"{NAME} {__version__}")
     help_jobs = "how many archives to check at a time (%(default)s)"
     parser.add_argument("--jobs", type=_jobs_of, default=1, metavar="N", help=help_jobs)
-    parser.add_argument("--warcdx", default="warcdx", metavar="PROGRAM", help="the program (%(default)s)")
+    help_program = "the program (%(default)s); for compressed archives warcdx-gz beside it, or of the PATH"
+    parser.add_argument("--warcdx", default="warcdx", metavar="PROGRAM", help=help_program)
     parser.add_argument("files", nargs="+", metavar="FILE")
     return parser.parse(arguments)
 
@@ -66,16 +67,35 @@ def _jobs_of(text: str) -> int:
 def check(file: str, program: str, has_heading: bool, output: BinaryIO) -> int:
     """Prints the records of an archive, and returns the exit status. Raises an Error if the program fails."""
     try:
-        archive = open_archive(file, program=program)
-        if has_heading:
-            output.write(os.fsencode(f"{file}:\n"))
-        return print_archive(file, archive, output)
+        with read_again(file) as path:
+            archive = open_archive(path, program=program)
+            if has_heading:
+                output.write(os.fsencode(f"{file}:\n"))
+            return print_archive(file, archive, output)
     except Fault as error:
-        report(NAME, _line_of(error))
+        report(NAME, _line_of(file, error))
         return _status_of(error)
 
 
-def print_archive(file: str, archive: Union[Archive, CompressedArchive], output: BinaryIO) -> int:
+@contextlib.contextmanager
+def read_again(file: str) -> Iterator[str]:
+    """Yields the path of a file, or of a copy of one that can be read only once, such as a pipe. Raises CannotOpen."""
+    try:
+        source = open(file, "rb", buffering=0)
+    except (OSError, ValueError) as error:
+        raise CannotOpen("CannotOpen", file) from error
+    with source:
+        if source.seekable():
+            yield file
+            return
+        with temporary_folder() as folder:
+            path = folder / "archive"
+            with open(path, "wb") as copy:
+                shutil.copyfileobj(source, copy)
+            yield os.fspath(path)
+
+
+def print_archive(file: str, archive: Archive, output: BinaryIO) -> int:
     """Prints the records of an archive, and the fault of a damaged one. Raises a fault that has no offset."""
     status, found = 0, set[Verdict]()
     try:
@@ -91,7 +111,7 @@ def print_archive(file: str, archive: Union[Archive, CompressedArchive], output:
     return max(status, FAULTY) if Verdict.DIFFERS in found else status
 
 
-def print_records(archive: Union[Archive, CompressedArchive], output: BinaryIO, found: set[Verdict]) -> None:
+def print_records(archive: Archive, output: BinaryIO, found: set[Verdict]) -> None:
     """Prints the records of an archive, and adds their verdicts to those that were found."""
     with contextlib.closing(check_archive(archive)) as records:
         for record in records:
@@ -103,10 +123,10 @@ def _status_of(error: Fault) -> int:
     return FAILED if isinstance(error, _FAILURES) else FAULTY
 
 
-def _line_of(error: Fault) -> str:
+def _line_of(file: str, error: Fault) -> str:
     if error.file is None:
         return error.name
-    return f"{printable(error.file)}: {'cannot open' if isinstance(error, CannotOpen) else error.name}"
+    return f"{printable(file)}: {'cannot open' if isinstance(error, CannotOpen) else error.name}"
 
 
 def work(arguments: Optional[Sequence[str]], output: BinaryIO) -> int:

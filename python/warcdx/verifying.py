@@ -1,17 +1,17 @@
-"""Compares the digests of blocks and of payloads with an archive of either form, which is read once."""
-import collections
-import io
-from collections.abc import Generator
-from typing import IO, NamedTuple, Union, cast
+"""Compares the digests of blocks and of payloads with an archive of either form."""
+import itertools
+import zlib
+from collections.abc import Generator, Iterator
+from typing import IO, NamedTuple
 
-from .archive import Archive, Listed
-from .codings import Unreadable
+from .archive import MAGIC, Archive, Listed
+from .codings import Unreadable, inflated
 from .errors import fault
-from .faults import CannotOpen, Read, ShortBlock, ShortHead
-from .gz import CompressedArchive
+from .faults import CannotOpen, CutMember, Read, ShortBlock, ShortHead
 from .record_digests import RecordCheck, Verdict, Verdicts
 
 _PIECE = 1 << 16  # bytes that are read at once
+_GZIP = 16 + zlib.MAX_WBITS
 
 
 class Checked(NamedTuple):
@@ -22,13 +22,11 @@ class Checked(NamedTuple):
     payload: Verdict
 
 
-def check_archive(archive: Union[Archive, CompressedArchive]) -> Generator[Checked, None, None]:
-    """Yields each record of an archive. After the last one raises the fault of a damaged archive."""
-    return _check_compressed(archive) if isinstance(archive, CompressedArchive) else _check_plain(archive)
+def check_archive(archive: Archive) -> Generator[Checked, None, None]:
+    """Yields each record of an archive, which isn't a pipe. After the last one raises the fault of a damaged archive.
 
-
-def _check_plain(archive: Archive) -> Generator[Checked, None, None]:
-    """Checks the records that `warcdx list` finds, which seeks past their blocks."""
+    `list` of the program finds the records, and has read a member to its end. They are then read for their digests.
+    """
     try:
         file = open(archive.path, "rb", buffering=_PIECE)
     except OSError as error:
@@ -39,66 +37,37 @@ def _check_plain(archive: Archive) -> Generator[Checked, None, None]:
 
 
 def _check_listed(path: str, file: IO[bytes], listed: Listed) -> Verdicts:
+    """Returns the verdicts on a record. Raises a Fault if the file was cut or changed after it was listed."""
+    check, stored, is_packed = RecordCheck(), _stored(file, listed), False
     try:
-        return _check_record(file, listed)
-    except EOFError as error:
-        raise fault(str(error), path, listed.offset) from None
+        first = next(stored)
+        is_packed = first.startswith(MAGIC)
+        pieces = itertools.chain((first,), stored)
+        _check_pieces(check, inflated(pieces, _GZIP) if is_packed else pieces)
+    except EOFError:
+        cause = CutMember if is_packed else ShortHead if check.size is None else ShortBlock
+        raise fault(cause.__name__, path, listed.offset) from None
     except (OSError, Unreadable) as error:
         raise Read("Read", path, listed.offset) from error
+    return check.verdicts()
 
 
-def _check_record(file: IO[bytes], listed: Listed) -> Verdicts:
-    """Raises EOFError with the name of the fault if the file was cut, and Unreadable if it was changed otherwise."""
-    check, left = RecordCheck(), listed.length
+def _check_pieces(check: RecordCheck, pieces: Iterator[bytes]) -> None:
+    """Reads a record that is these pieces. Raises Unreadable if they aren't one."""
+    for piece in pieces:
+        if check.add(memoryview(piece)):
+            raise Unreadable("the file was changed meanwhile")
+    if not check.is_whole:
+        raise Unreadable("the file was changed meanwhile")
+
+
+def _stored(file: IO[bytes], listed: Listed) -> Iterator[bytes]:
+    """Yields the bytes of a record as they are in the file. Raises EOFError if there are fewer."""
+    left = listed.length
     file.seek(listed.offset)
     while left:
         piece = file.read(min(left, _PIECE))
         if not piece:
-            raise EOFError(ShortHead.__name__ if check.size is None else ShortBlock.__name__)
-        check.add(memoryview(piece))
+            raise EOFError
         left -= len(piece)
-    if not check.is_whole:
-        raise Unreadable("the file was changed meanwhile")
-    return check.verdicts()
-
-
-class _Unpacked(NamedTuple):
-    """A record of an unpacked stream: where it begins and ends in the stream, in bytes, and its verdicts."""
-
-    start: int
-    end: int
-    verdicts: Verdicts
-
-
-class _Checks(io.RawIOBase):
-    """An output that checks the records that are written to it. Nothing follows one that can't be read."""
-
-    def __init__(self) -> None:
-        self.found: collections.deque[_Unpacked] = collections.deque()
-        self._check = RecordCheck()
-        self._start = 0
-        self._is_unreadable = False
-
-    def write(self, piece: "bytes | memoryview") -> int:  # type: ignore[override]
-        rest = memoryview(piece)
-        while rest and not self._is_unreadable:
-            try:
-                rest = self._check.add(rest)
-            except Unreadable:
-                self._is_unreadable = True
-            if self._check.is_whole and self._check.size is not None:
-                end = self._start + self._check.size
-                self.found.append(_Unpacked(self._start, end, self._check.verdicts()))
-                self._check, self._start = RecordCheck(), end
-        return len(piece)
-
-
-def _check_compressed(archive: CompressedArchive) -> Generator[Checked, None, None]:
-    """Checks what members hold as it is given to `warcdx list`, which finds the records."""
-    checks = _Checks()
-    with archive._reading("list", cast("IO[bytes]", checks)) as reading:
-        for member, _ in reading.records():
-            found = checks.found.popleft() if checks.found else None
-            if found is None or found[:2] != member[:2]:
-                raise Read("Read", archive.path, member.packed_start)
-            yield Checked(member.packed_start, *found.verdicts)
+        yield piece

@@ -12,7 +12,7 @@ from collections.abc import Iterator
 from typing import Any, NamedTuple, Optional
 
 from device_runs import expect
-from program import ROOT
+from program import ROOT, find_packed_program
 from script_runs import Ended, Run, Script, Word, gateway, inputs, record
 from script_signals import is_caught, wait_until
 
@@ -47,16 +47,12 @@ class Command(NamedTuple):
 
 def commands_of(program: pathlib.Path) -> Iterator[Command]:
     folder, of_warcdx = ROOT / "python/bin", ("--warcdx", str(program))
+    find_packed_program(program)  # which the commands find too
     for name, status, *words in (
-        ("warcdx-gz", 0, "list", "a.warc.gz"),
-        ("warcdx-gz", 1, "verify", "cut.warc.gz"),
-        ("warcdx-gz", 0, "index", "\u00e9.warc.gz"),
-        ("warcdx-gz", 0, "get", "0", "large.warc.gz"),
-        ("warcdx-gz", 1, "index", "cut.warc", "a.warc.gz"),
-        ("warcdx-gz", 1, "get", "7", "b.warc"),
-        ("warcdx-gz", 0, "list", "pipe"),
-        ("warcdx-gz", 0, "index", "pipe"),
         ("warcdx-verify", 0, "digests.warc.gz"),
+        ("warcdx-verify", 0, "\u00e9.warc.gz"),
+        ("warcdx-verify", 1, "cut.warc"),
+        ("warcdx-verify", 0, "pipe"),
         ("warcdx-verify", 1, "--jobs", "2", "digests.warc.gz", "cut.warc.gz"),
         ("warcdx-cdx", 0, "to", "a.cdxj"),
         ("warcdx-cdx", 1, "to", "bad.cdxj"),
@@ -66,7 +62,7 @@ def commands_of(program: pathlib.Path) -> Iterator[Command]:
         yield Command(script, name, status, "pages.warc.gz" if "pipe" in words else None)
     words = ("-m", "warcdx.plot", *of_warcdx, "hosts", "a.cdxj")
     yield Command(Script("python3 -m warcdx.plot", pathlib.Path(sys.executable), words), "warcdx.plot")
-    words = ("--quiet", "--jobs", "2", *of_warcdx, "--warcdx-gz", str(folder / "warcdx-gz"), "crawl", INDEX)
+    words = ("--quiet", "--jobs", "2", *of_warcdx, "crawl", INDEX)
     yield Command(Script("warcdx-update", folder / "warcdx-update", words, most_lines=20), "warcdx-update")
     for script in gateway(program):
         yield Command(script, "warcdx-gateway")

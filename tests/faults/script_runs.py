@@ -15,7 +15,7 @@ from types import TracebackType
 from typing import IO, Any, NamedTuple, Optional, Union
 
 from device_runs import LINE, SECONDS, expect
-from program import ROOT
+from program import ROOT, find_packed_program
 
 MANY = 6000  # records of an archive, so that a report on it is larger than any buffer and any pipe
 PATIENCE = 30  # seconds in which, on a busy host too, the processes of a run that a signal has ended are gone
@@ -60,22 +60,17 @@ class Script(NamedTuple):
 
 def scripts_of(program: pathlib.Path) -> tuple[Script, ...]:
     """Returns the runs of each command. A new command has its own here."""
-    gz, verify = ROOT / "python/bin/warcdx-gz", ROOT / "python/bin/warcdx-verify"
-    cdx = ROOT / "python/bin/warcdx-cdx"
-    of_gz = ("--warcdx", str(program))
+    verify, cdx = ROOT / "python/bin/warcdx-verify", ROOT / "python/bin/warcdx-cdx"
+    find_packed_program(program)  # which warcdx-verify finds too
+    of_warcdx = ("--warcdx", str(program))
     return (
-        Script("warcdx-gz index of two", gz, (*of_gz, "index", "a.warc.gz", "b.warc"), "a.warc.gz"),
-        Script("warcdx-gz index", gz, (*of_gz, "index", "a.warc.gz"), "a.warc.gz"),
-        Script("warcdx-gz list", gz, (*of_gz, "list", "a.warc.gz"), "a.warc.gz"),
-        Script("warcdx-gz get", gz, (*of_gz, "get", "0", "large.warc.gz"), "large.warc.gz"),
-        Script("warcdx-gz index of a plain archive", gz, (*of_gz, "index", "b.warc"), "b.warc"),
-        Script("warcdx-verify", verify, (*of_gz, "digests.warc.gz"), "digests.warc.gz"),
-        Script("warcdx-verify of a plain archive", verify, (*of_gz, "digests.warc"), "digests.warc"),
-        Script("warcdx-verify of two at a time", verify, (*of_gz, "--jobs", "2", "digests.warc.gz", "digests.warc")),
-        Script("warcdx-cdx to", cdx, (*of_gz, "to", "a.cdxj"), "a.cdxj"),
-        Script("warcdx-cdx to of standard input", cdx, (*of_gz, "to"), reads="a.cdxj"),
-        Script("warcdx-cdx from", cdx, (*of_gz, "from", "a.cdx"), "a.cdx"),
-        Script("warcdx-cdx from of standard input", cdx, (*of_gz, "from"), reads="a.cdx"),
+        Script("warcdx-verify", verify, (*of_warcdx, "digests.warc.gz"), "digests.warc.gz"),
+        Script("warcdx-verify of a plain archive", verify, (*of_warcdx, "digests.warc"), "digests.warc"),
+        Script("warcdx-verify of two at a time", verify, (*of_warcdx, "--jobs", "2", "digests.warc.gz", "digests.warc")),
+        Script("warcdx-cdx to", cdx, (*of_warcdx, "to", "a.cdxj"), "a.cdxj"),
+        Script("warcdx-cdx to of standard input", cdx, (*of_warcdx, "to"), reads="a.cdxj"),
+        Script("warcdx-cdx from", cdx, (*of_warcdx, "from", "a.cdx"), "a.cdx"),
+        Script("warcdx-cdx from of standard input", cdx, (*of_warcdx, "from"), reads="a.cdx"),
         Script("warcdx-update", ROOT / "python/bin/warcdx-update", has_output=False),
         *gateway(program),
         Script("body.py", ROOT / "examples/body.py", reads="page.warc", has_version=False),
@@ -111,12 +106,10 @@ def inputs() -> Mapping[str, bytes]:
     numbers = range(10_000, 14_000)
     digests = (hashlib.sha256(b"%d" % number).hexdigest().encode() for number in numbers)
     with_digests = [VERIFIED % (digest, b"%d" % number) for digest, number in zip(digests, numbers)]
-    large = base64.b64encode(b"".join(hashlib.sha512(b"%d" % number).digest() for number in range(20_000)))
     page = b"HTTP/1.1 200 OK\r\n\r\n" + BODY
     return {
         "a.warc.gz": b"".join(gzip.compress(record, 1, mtime=0) for record in records),
         "b.warc": b"".join(records),
-        "large.warc.gz": gzip.compress(record(0, large), 1, mtime=0),
         "digests.warc.gz": b"".join(gzip.compress(record, 1, mtime=0) for record in with_digests),
         "digests.warc": b"".join(with_digests),
         "page.warc": PAGE % (len(page), page),

@@ -28,9 +28,8 @@ from collections.abc import Iterator
 HERE = pathlib.Path(__file__).resolve().parent
 sys.path.insert(0, str(HERE.parent))
 
-from program import ROOT, Report, add_program, find_program, need, parser_of
+from program import ROOT, Report, add_program, find_packed_program, find_program, need, parser_of
 
-COMMAND = ROOT / "python/bin/warcdx-gz"
 USUAL = pathlib.Path("/usr/share/doc/wget")
 WGET = (
     "wget --recursive --level=inf --delete-after --no-verbose --execute=robots=off --tries=2 --timeout=20 --no-proxy "
@@ -72,7 +71,8 @@ class Crawl:
     """A crawl, its unpacked archive, and the lines of its index."""
 
     def __init__(self, program: pathlib.Path, folder: pathlib.Path, name: str) -> None:
-        self.program, self.packed = program, folder / f"{name}.warc.gz"
+        self.program, self.packed_program = program, find_packed_program(program)
+        self.packed = folder / f"{name}.warc.gz"
         self.plain = folder / f"{name}.warc"
         self.plain.write_bytes(gzip.decompress(self.packed.read_bytes()))
         self.lines = self.run("index", self.packed).splitlines()
@@ -83,7 +83,7 @@ class Crawl:
         }
 
     def run(self, *arguments: object) -> bytes:
-        return output(COMMAND, "--warcdx", self.program, *arguments)
+        return output(self.packed_program, *arguments)
 
     def bad_members(self) -> list[str]:
         """Returns the URLs of the captures that have no member of their own."""

@@ -29,7 +29,7 @@ from update_trial import (
     FAILING, SLOW, WAIT, Differs, Trial, compressed, copy_sample, expect, index_of, index_of_folders, kill_group, merged, sample, until, until_unlocked
 )
 
-from program import Report, add_program, find_program, parser_of  # isort: skip
+from program import Report, add_program, find_packed_program, find_program, parser_of  # isort: skip
 
 MANY = 1000
 KILLS = 20
@@ -55,8 +55,7 @@ def index_of_many(program: pathlib.Path, trial: Trial, folder: pathlib.Path) -> 
     """Returns the index of the archives of a folder, by one run for the plain ones and one for the others."""
     plain, packed = folder / "plain.cdxj", folder / "packed.cdxj"
     plain.write_bytes(trial.index_of("*.warc"))
-    command = (str(pathlib.Path(__file__).resolve().parents[2] / "python/bin/warcdx-gz"), "--warcdx", str(program), "index")
-    packed.write_bytes(subprocess.run((*command, *sorted(trial.archives.glob("*.gz"))), stdout=subprocess.PIPE).stdout)
+    packed.write_bytes(index_of(find_packed_program(program), sorted(trial.archives.glob("*.gz"))))
     return merged(program, [plain, packed])
 
 

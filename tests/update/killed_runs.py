@@ -125,15 +125,13 @@ def a_run_may_be_killed_before_each_change(program: pathlib.Path, folder: pathli
 
 
 def programs_end_with_a_run_that_is_killed(program: pathlib.Path, folder: pathlib.Path) -> None:
-    """Nothing but the run is killed. Its programs, and the one that a program starts, would go on for longer than is waited."""
+    """Nothing but the run is killed. Its programs would go on for longer than is waited."""
     trial = Trial(program, folder, SLOW.replace("sleep 0.5", f"exec sleep {10 * WAIT}"))
     (trial.archives / "packed.warc.gz").write_bytes(compressed(sample("response")))
     work = trial.start("--jobs", "20")
     until("the programs", lambda: len(trial.begun) == 13)
     processes = children_of(work.pid)
-    for process in tuple(processes):
-        processes += children_of(int(process))
-    expect("number of the programs", len(processes), 14)
+    expect("number of the programs", len(processes), 13)
     work.kill()
     work.wait()
     try:

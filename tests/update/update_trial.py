@@ -15,20 +15,20 @@ from typing import Any
 
 sys.path.insert(0, str(pathlib.Path(__file__).resolve().parents[1]))
 
-from program import ROOT
+from program import PACKED, ROOT, find_packed_program
 
 signal.signal(signal.SIGINT, signal.default_int_handler)  # a job in the background ignores it, and so would its commands
 
 COMMAND = ROOT / "python/bin/warcdx-update"
-GZ = ROOT / "python/bin/warcdx-gz"
 WAIT = 120  # seconds for what takes a few
 RECORD_END = b"\r\n\r\n"
-# Notes its parent and the archive that it begins, and then takes half a second.
+# Stands in the place of both programs. Notes its parent and the archive that it begins, and then takes half a second.
 SLOW = """#!/bin/sh
-[ "$1" = index ] || exec "%(program)s" "$@"
+case $0 in *-gz) program="%(packed)s";; *) program="%(program)s";; esac
+[ "$1" = index ] || exec "$program" "$@"
 echo "$PPID ${2#./}" >> "%(folder)s/begun"
 sleep 0.5
-exec "%(program)s" "$@"
+exec "$program" "$@"
 """
 FAST = SLOW.replace("sleep 0.5\n", "")
 # Fails as on a machine that can't reach a file.
@@ -60,7 +60,7 @@ def until(name: str, holds: Callable[[], Any]) -> Any:
 
 
 def index_of(program: pathlib.Path, archives: Iterable[pathlib.Path]) -> bytes:
-    """Returns what the program writes of plain archives."""
+    """Returns what a program writes of archives."""
     return subprocess.run((program, "index", *archives), stdout=subprocess.PIPE, stderr=subprocess.PIPE).stdout
 
 
@@ -70,8 +70,7 @@ def index_of_folders(program: pathlib.Path, folder: pathlib.Path, work: pathlib.
     for archive in sorted(folder.rglob("*.warc*")):
         name = json.dumps(str(archive.relative_to(folder)), ensure_ascii=False)
         is_compressed = archive.read_bytes()[:2] == b"\x1f\x8b"
-        command = (GZ, "--warcdx", program) if is_compressed else (program,)
-        lines = subprocess.run((*command, "index", archive), stdout=subprocess.PIPE, stderr=subprocess.PIPE).stdout
+        lines = index_of(find_packed_program(program) if is_compressed else program, [archive])
         parts.append(work / f"{len(parts)}.part")
         old = f'"filename": {json.dumps(archive.name, ensure_ascii=False)}}}\n'
         parts[-1].write_bytes(lines.replace(old.encode(), f'"filename": {name}}}\n'.encode()))
@@ -104,8 +103,9 @@ class Trial:
             name = "damaged" if number == 7 else "wget" if number % 2 else "response"
             (self.archives / f"{number:02}.warc").write_bytes(sample(name))
         self.program = folder / "program"
-        self.program.write_text(script % {"folder": folder, "program": program})
+        self.program.write_text(script % {"folder": folder, "program": program, "packed": find_packed_program(program)})
         self.program.chmod(0o755)
+        (folder / PACKED).symlink_to(self.program)
         self._built = program
         self.wanted = self.index_of("*.warc")
 
@@ -118,8 +118,7 @@ class Trial:
         return self.usual_command("--all-faults", "--report", self.folder / "report", *words)
 
     def usual_command(self, *words: object) -> list[str]:
-        options = ("--warcdx", self.program, "--warcdx-gz", GZ)
-        return [*map(str, (COMMAND, *options, *words)), str(self.archives), str(self.index)]
+        return [*map(str, (COMMAND, "--warcdx", self.program, *words)), str(self.archives), str(self.index)]
 
     def start(self, *words: object, **options: Any) -> "subprocess.Popen[bytes]":
         with open(self.folder / "said", "wb") as said:

@@ -6,7 +6,7 @@ from collections.abc import Iterator
 from dataclasses import dataclass
 from typing import Optional
 
-from warcdx import Capture, Error, Fault, Unreadable, faults, open_archive
+from warcdx import Capture, Error, Fault, ReplyTooLate, Unreadable, faults, open_archive
 from warcdx.codings import Limits
 from warcdx.record import Head, HttpHead, RecordStream
 from warcdx.record_digests import RecordCheck, Verdicts
@@ -16,6 +16,7 @@ from .searching import NotShown
 
 MOST_SHOWN = 4 << 20  # bytes of a payload that are shown
 MOST_VERIFIED = 1 << 28  # bytes of a block whose digest is compared for a page
+SILENCE = 10  # seconds for the program to find a record, and to unpack what follows it in its member
 # What unpacking a payload may take, for a page and for a download.
 SHOWN = Limits(size=64 << 20, seconds=5)
 DOWNLOADED = Limits(size=16 << 30, seconds=3600)
@@ -111,7 +112,7 @@ def opened(collection: Collection, capture: Capture) -> Iterator[RecordStream]:
         )
     try:
         archive = open_archive(path, program=collection.program)
-        with archive.stream(capture.offset, length=capture.length) as record:
+        with archive.stream(capture.offset, length=capture.length, seconds=SILENCE) as record:
             yield record
     except faults.NoRecord:
         raise NotShown(
@@ -119,7 +120,7 @@ def opened(collection: Collection, capture: Capture) -> Iterator[RecordStream]:
             "No record of the archive begins at this offset and has this length.",
             404,
         ) from None
-    except (Fault, Unreadable) as error:
+    except (Fault, ReplyTooLate, Unreadable) as error:
         raise NotShown("The record can't be read.", reason_of(error), 502) from error
 
 
@@ -191,14 +192,14 @@ class Download:
     """The pieces of a record, of its payload, or of the payload as it is stored with its codings.
 
     What `stack` has to close is closed with it. The constructor raises NotShown, and so does the
-    iterator if the record ends before its end.
+    iterator, in place of the last piece, if the record isn't whole or its archive is damaged there.
     """
 
     def __init__(self, stack: contextlib.ExitStack, record: RecordStream, what: str) -> None:
         self.head = record.head
         self.size = record.size if what == "record" else None
         self._pieces = _pieces_of(record, what)
-        self._first: Optional[bytes] = self._next()
+        self._ahead = self._next()
         self._stack = stack.pop_all()
 
     def held(self, most: int) -> Optional[bytes]:
@@ -209,18 +210,19 @@ class Download:
             if not piece:
                 return bytes(held)
             held += piece
-        self._first = bytes(held)
+        self._ahead = bytes(held) + self._ahead
         return None
 
     def __iter__(self) -> Iterator[bytes]:
         return self
 
     def __next__(self) -> bytes:
-        piece, self._first = self._first, None
-        if piece is None:
-            piece = self._next()
-        if not piece:
+        piece = self._ahead
+        if piece:
+            self._ahead = self._next()
+        if not self._ahead:
             self._stack.close()  # which raises why the record has ended, if that is too early
+        if not piece:
             raise StopIteration
         return piece
 
