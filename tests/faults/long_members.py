@@ -49,7 +49,7 @@ def zeros(size: int) -> Iterator[bytes]:
 
 
 def record(size: int) -> Iterator[bytes]:
-    """The pieces of a record with a block of so many zeros."""
+    """The pieces of a record whose block is `size` zeros."""
     digest = hashlib.sha1()
     for piece in zeros(size):
         digest.update(piece)
