@@ -22,3 +22,5 @@ mod OneTextLemmas
 mod OneRecordLemmas
 mod OneAddLemmas
 mod FailedLemmas
+pub mod PackedRowLemmas
+pub mod PackedCaptureLemmas

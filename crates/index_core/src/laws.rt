@@ -4,6 +4,8 @@ ghost use Rattle.index_core.specs.Laws.{AcceptedIsWhole, OneIndexed, OneIndexedT
 ghost use Rattle.index_core.specs.Laws.{OneStands, SomeStands, WholeIsNotRefused, WholeStays};
 ghost use Rattle.index_core.specs.Laws.{CapturesStay, PlainIsDamaged, PlainIsWhole};
 ghost use Rattle.index_core.specs.FetchingLaws.{LengthAgrees, OffsetAgrees, CapturesAreFetched};
+ghost use Rattle.index_core.specs.PackedLaws.{MembersAreAccepted, MembersAreRecords};
+ghost use Rattle.index_core.specs.PackedLaws.{MembersHaveCaptures};
 ghost use Rattle.index_core.specs.OneText.{ListsOneText, ListsPart, VerifiesOneText, VerifiesPart};
 ghost use Rattle.index_core.specs.OneText.{FetchesOneText, FetchesFront, FetchesAtOneText};
 ghost use Rattle.index_core.specs.OneText.{FetchesAtFront, AddsOneList, AddsFirst, WritesOneIndex};
@@ -64,6 +66,15 @@ pub fn accepted_archive_is_not_refused()
 pub fn accepted_archive_stays_accepted()
     ensures whole { WholeStays }
     ensures captures { CapturesStay }
+{}
+
+/// A compressed archive of a member of each record of a plain one consists of these records, each at
+/// its member's place. It has the captures of the plain one, but for their offsets and lengths. It
+/// is accepted whole if the plain one is, unless a line becomes too long by the digits of its place.
+pub fn packed_records_keep_their_captures()
+    ensures records { MembersAreRecords }
+    ensures captures { MembersHaveCaptures }
+    ensures accepted { MembersAreAccepted }
 {}
 
 /// The archive decides what `get` and `get_at` return and write, unless a device fails or memory
