@@ -24,3 +24,5 @@ mod OneAddLemmas
 mod FailedLemmas
 pub mod PackedRowLemmas
 pub mod PackedCaptureLemmas
+pub mod PackedPlaceLemmas
+pub mod PackedFetchLemmas

@@ -13,6 +13,7 @@ pub mod Counting
 pub mod Laws
 pub mod FetchingLaws
 pub mod PackedLaws
+pub mod PackedFetching
 pub mod OneText
 pub mod Limits
 -- what contracts see of archives

@@ -4,6 +4,7 @@ ghost use Rattle.index_core.specs.Laws.{AcceptedIsWhole, OneIndexed, OneIndexedT
 ghost use Rattle.index_core.specs.Laws.{OneStands, SomeStands, WholeIsNotRefused, WholeStays};
 ghost use Rattle.index_core.specs.Laws.{CapturesStay, PlainIsDamaged, PlainIsWhole};
 ghost use Rattle.index_core.specs.FetchingLaws.{LengthAgrees, OffsetAgrees, CapturesAreFetched};
+ghost use Rattle.index_core.specs.PackedFetching.{PackedCapturesAreFetched, PackedCapturesStand};
 ghost use Rattle.index_core.specs.PackedLaws.{MembersAreAccepted, MembersAreRecords};
 ghost use Rattle.index_core.specs.PackedLaws.{MembersHaveCaptures};
 ghost use Rattle.index_core.specs.OneText.{ListsOneText, ListsPart, VerifiesOneText, VerifiesPart};
@@ -75,6 +76,14 @@ pub fn packed_records_keep_their_captures()
     ensures records { MembersAreRecords }
     ensures captures { MembersHaveCaptures }
     ensures accepted { MembersAreAccepted }
+{}
+
+/// At the offset of each capture of a compressed archive, a member begins that is as long as the
+/// capture says. It holds one record, and the capture is that record's. Both forms of `get` write
+/// its text there.
+pub fn packed_captures_stand_in_members()
+    ensures stand { PackedCapturesStand }
+    ensures fetched { PackedCapturesAreFetched }
 {}
 
 /// The archive decides what `get` and `get_at` return and write, unless a device fails or memory
