@@ -2,11 +2,12 @@
 import zlib
 from typing import NamedTuple, Optional
 
-from plain import records
+from plain import inflate, records
 from plain.records import Damage, Fault, Record
 
 MAGIC = b"\x1f\x8b"
 GZIP = 16 + zlib.MAX_WBITS
+FHCRC, FEXTRA, FNAME, FCOMMENT = (1 << bit for bit in range(1, 5))
 
 
 class Read(NamedTuple):
@@ -60,8 +61,36 @@ def read_member(archive: bytes, offset: int) -> Member:
     except zlib.error:
         raise Damage("BadMember") from None
     if not inflater.eof:
-        raise Damage("CutMember")
+        raise Damage("BadMember" if is_bad(inflater, packed) else "CutMember")
     return Member(len(packed) - len(inflater.unused_data), text)
+
+
+def is_bad(inflater: "zlib._Decompress", packed: bytes) -> bool:
+    """Whether a cut member is bad already: lengths of codes are coded by no code. zlib waits for them, whatever the bits, and then refuses them."""
+    try:
+        inflater.copy().decompress(bytes(400))
+    except zlib.error as error:
+        if "missing end-of-block" not in str(error):
+            return False
+    else:
+        return False
+    try:
+        inflate.unpack(packed[header_length(packed) :])
+    except inflate.Bad:
+        return True
+    except inflate.Cut:
+        pass
+    return False
+
+
+def header_length(packed: bytes) -> int:
+    flags, at = packed[3], 10
+    if flags & FEXTRA:
+        at += 2 + int.from_bytes(packed[at : at + 2], "little")
+    for flag in (FNAME, FCOMMENT):
+        if flags & flag:
+            at = packed.index(0, at) + 1
+    return at + 2 if flags & FHCRC else at
 
 
 def record_of(member: Member) -> Record:
