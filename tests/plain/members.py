@@ -58,29 +58,31 @@ def read_member(archive: bytes, offset: int) -> Member:
     inflater = zlib.decompressobj(GZIP)
     try:
         text = inflater.decompress(packed)
-    except zlib.error:
-        raise Damage("BadMember") from None
+    except zlib.error as error:
+        raise Damage(cause_of(packed) if "invalid code lengths set" in str(error) else "BadMember") from None
     if not inflater.eof:
-        raise Damage("BadMember" if is_bad(inflater, packed) else "CutMember")
+        raise Damage(cause_of(packed) if waits_for_lengths(inflater) else "CutMember")
     return Member(len(packed) - len(inflater.unused_data), text)
 
 
-def is_bad(inflater: "zlib._Decompress", packed: bytes) -> bool:
-    """Whether a cut member is bad already: lengths of codes are coded by no code. zlib waits for them, whatever the bits, and then refuses them."""
+def waits_for_lengths(inflater: "zlib._Decompress") -> bool:
+    """Whether zlib may wait for lengths that are coded by no code. Whatever the bits are, it then refuses them."""
     try:
         inflater.copy().decompress(bytes(400))
     except zlib.error as error:
-        if "missing end-of-block" not in str(error):
-            return False
-    else:
-        return False
+        return "missing end-of-block" in str(error)
+    return False
+
+
+def cause_of(packed: bytes) -> str:
+    """The cause for which a member isn't whole. Where one code or none codes the lengths, zlib refuses data that are only cut, and the other way round."""
     try:
         inflate.unpack(packed[header_length(packed) :])
-    except inflate.Bad:
-        return True
     except inflate.Cut:
-        pass
-    return False
+        return "CutMember"
+    except inflate.Bad:
+        return "BadMember"
+    return "CutMember"  # in its trailer
 
 
 def header_length(packed: bytes) -> int:
