@@ -61,7 +61,7 @@ impl<I: Input> Members<I> {
     }
 
     /// Passes over the next `count` bytes of the file, or all if there are fewer, and returns
-    /// whether there were so many. A member that was begun is not read further. The only error is
+    /// whether there were enough. A member that was begun is not read further. The only error is
     /// the input's failure.
     pub fn pass_over(&mut self, count: u64) -> Result<bool, DeviceFault>
         requires { self.old.source.passed + count ≤ 2 ^ 63 - 1 }
