@@ -1,6 +1,11 @@
 # Completion of the words of warcdx for bash.
 
 _warcdx() {
+    _warcdx_words warc
+}
+
+# Those of a program whose archives have one of these endings.
+_warcdx_words() { # ENDING..
     local word=${COMP_WORDS[COMP_CWORD]} command=${COMP_WORDS[1]} operand=$((COMP_CWORD - 1))
     local option='' options=''
     COMPREPLY=()
@@ -31,10 +36,10 @@ _warcdx() {
         return
     fi
     case $command:$operand in
-        list:* | verify:* | index:* | get:2) _warcdx_files warc ;;
+        list:* | verify:* | index:* | get:2) _warcdx_files "$@" ;;
         query:1 | pages:2 | scan:2) _warcdx_query ;;
         pages:1 | scan:1) ;;
-        scan:*) _warcdx_files warc ;;
+        scan:*) _warcdx_files "$@" ;;
         merge:* | check:* | serve:* | query:* | pages:*) _warcdx_files cdxj ;;
     esac
 }
@@ -63,10 +68,13 @@ _warcdx_query() {
     compopt -o nospace
 }
 
-# Folders and files with the ending; all files where there are none.
-_warcdx_files() { # ENDING
-    local name
-    while IFS= read -r name; do COMPREPLY+=("$name"); done < <(compgen -f -X "!*.$1" -- "$word"; compgen -d -- "$word")
+# Folders and files with one of the endings; all files where there are none.
+_warcdx_files() { # ENDING..
+    local ending name
+    while IFS= read -r name; do COMPREPLY+=("$name"); done < <(
+        for ending; do compgen -f -X "!*.$ending" -- "$word"; done
+        compgen -d -- "$word"
+    )
     compopt -o filenames -o default
 }
 

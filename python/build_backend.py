@@ -1,10 +1,10 @@
 """Builds the wheel and the source archive of the Python package, with the standard library alone.
 
-usage: python3 build_backend.py PROGRAM LIBRARY FOLDER
+usage: python3 build_backend.py PROGRAMS LIBRARY FOLDER
 
 `pip` calls the functions build_wheel, build_editable and build_sdist (PEP 517 and PEP 660), and needs no network for
-it. As a script this file writes a wheel for Linux on x86-64 with the program PROGRAM to FOLDER, and prints its name.
-LIBRARY is the version of the GNU C library that the program needs, such as 2.34.
+it. As a script this file writes a wheel for Linux on x86-64 to FOLDER, and prints its name. The wheel has the programs
+warcdx and warcdx-gz of the folder PROGRAMS. LIBRARY is the version of the GNU C library that they need, such as 2.34.
 
 The same files make the same bytes. All times are SOURCE_DATE_EPOCH, or else the start of 1980.
 """
@@ -26,12 +26,13 @@ HERE = pathlib.Path(__file__).resolve().parent
 VERSION = (HERE / "VERSION").read_text().strip()
 INFO = f"warcdx-{VERSION}.dist-info"
 SCRIPTS = f"warcdx-{VERSION}.data/scripts"
+PROGRAMS = ("warcdx", "warcdx-gz")
 FIRST_TIME = 315_532_800  # of a zip file: 1980-01-01
 METADATA = f"""\
 Metadata-Version: 2.1
 Name: warcdx
 Version: {VERSION}
-Summary: Queries over the indexes of web archives, and their records, by the program warcdx
+Summary: Queries over the indexes of web archives, and their records, by the programs warcdx and warcdx-gz
 License: Apache-2.0
 Classifier: License :: OSI Approved :: Apache Software License
 Classifier: Operating System :: POSIX :: Linux
@@ -56,7 +57,7 @@ class File(NamedTuple):
 
 
 def build_wheel(folder: str, config_settings: _SETTINGS = None, metadata_directory: Optional[str] = None) -> str:
-    """Writes the wheel of the package, without the program, and returns its name."""
+    """Writes the wheel of the package, without the programs, and returns its name."""
     return write_wheel(folder, "py3-none-any", [*modules(), *scripts()])
 
 
@@ -82,10 +83,11 @@ def build_sdist(folder: str, config_settings: _SETTINGS = None) -> str:
     return f"{root}.tar.gz"
 
 
-def build_program_wheel(folder: str, program: pathlib.Path, library: str) -> str:
-    """Writes a wheel with the program, which needs this version of the C library, and returns its name."""
+def build_program_wheel(folder: str, programs: pathlib.Path, library: str) -> str:
+    """Writes a wheel with the programs of a folder, which need this version of the C library, and returns its name."""
     tag = f"py3-none-manylinux_{library.replace('.', '_')}_x86_64"
-    return write_wheel(folder, tag, [*modules(), *scripts(), File(f"{SCRIPTS}/warcdx", program.read_bytes(), 0o755)])
+    files = (File(f"{SCRIPTS}/{name}", (programs / name).read_bytes(), 0o755) for name in PROGRAMS)
+    return write_wheel(folder, tag, [*modules(), *scripts(), *files])
 
 
 def modules() -> Iterator[File]:
@@ -139,5 +141,5 @@ def source_time() -> int:
 
 if __name__ == "__main__":
     if len(sys.argv) != 4:
-        sys.exit("usage: python3 build_backend.py PROGRAM LIBRARY FOLDER")
+        sys.exit("usage: python3 build_backend.py PROGRAMS LIBRARY FOLDER")
     print(build_program_wheel(sys.argv[3], pathlib.Path(sys.argv[1]), sys.argv[2]))

@@ -38,6 +38,7 @@ work=$(mktemp -d)
 trap 'rm -rf --one-file-system "$work"' EXIT
 home=/home/user
 listed='0 264 response'
+packed_listed="0 $(gzip --stdout "$root/samples/response.warc" | wc -c) response"
 unit=warcdx-gateway.service
 link=/etc/systemd/system/multi-user.target.wants/$unit
 
@@ -92,6 +93,7 @@ check_package() { # PAGE: installs the package as this page says, and removes it
     expect "its version" $'warcdx\t'"$version" "$(in_system 0:0 dpkg-query --show warcdx)"
     expect "its files" "" "$(in_system 0:0 dpkg --verify warcdx)"
     expect "the user of the gateway" "warcdx-gateway" "$(in_system 0:0 id --user --name warcdx-gateway)"
+    expect "as a user, who lists a compressed archive" "$packed_listed" "$(in_system 1000:1000 sh -c 'gzip --stdout /usr/share/doc/warcdx/samples/response.warc | warcdx-gz')"
     check_commands
     in_system 0:0 install -D --mode=644 /dev/null /etc/warcdx/gateway.toml
     check_command "removed" run_there docs/INSTALL.md 'sudo dpkg --purge'

@@ -1,15 +1,16 @@
 #!/usr/bin/env bash
 # Unpacks the tar file, the Debian package and the wheel of a release, and checks what is in them.
 #
-# usage: check_release.sh [FOLDER [PROGRAM]]
+# usage: check_release.sh [FOLDER [PROGRAM [GZ_PROGRAM]]]
 #
 # FOLDER has what `tools/release` made; the default is release/ at the top of the repository. These
 # are checked: the checksums, the modes, the files, each in the place that docs/INSTALL.md names,
-# the links of the pages, the program, the manual page, the commands, the wheel in a new virtual environment,
-# and the package by lintian. With PROGRAM the release is made of it once more, of a copy that only its owner
-# may read, with another umask, locale and time zone, and has to be the same.
+# the links of the pages, the programs, the manual page, the commands, the wheel in a new virtual environment,
+# and the package by lintian. With PROGRAM the release is made once more, of PROGRAM and GZ_PROGRAM as `tools/release`
+# takes them. It is made of a copy that only its owner may read, with another umask, locale and time zone, and has to be
+# the same.
 #
-# The program is run with an environment that has neither the Rattle kit nor this repository.
+# The programs are run with an environment that has neither the Rattle kit nor this repository.
 # tools/check_package.sh installs the package. tests/cli/install.sh runs the lines of docs/INSTALL.md,
 # and tests/cli/manual.sh and tests/cli/completions.sh check the manual page and the completions.
 #
@@ -17,10 +18,11 @@
 # python3 and Debian's packages binutils, dpkg, lintian, man-db and python3-venv.
 set -euo pipefail
 source "$(dirname "$0")/../tests/program.sh"
+source "$root/tools/programs.sh"
 read_help "$@"
 need dpkg-deb:dpkg lintian man:man-db objdump:binutils python3
 need_module ensurepip python3-venv
-if [ $# -gt 2 ]; then stop_usage "unexpected argument '$3'"; fi
+if [ $# -gt 3 ]; then stop_usage "unexpected argument '$4'"; fi
 version=$(< "$root/VERSION")
 name=warcdx-$version-x86_64-linux
 folder=$(readlink -f "${1:-$root/release}")
@@ -41,12 +43,12 @@ installed() { # ARGUMENT..: runs a command as a user runs it who has the release
     env --ignore-environment HOME="$work" PATH="$prefix/bin:/usr/bin:/bin" PYTHONDONTWRITEBYTECODE=1 "$@" 2>&1
 }
 
-libraries() {
-    objdump -p "$prefix/bin/warcdx" | sed -n 's/^ *NEEDED *//p'
+libraries() { # PROGRAM
+    objdump -p "$prefix/bin/$1" | sed -n 's/^ *NEEDED *//p'
 }
 
-library_versions() {
-    objdump -T "$prefix/bin/warcdx" | grep --only-matching 'GLIBC_[0-9.]*' | sort --version-sort
+library_versions() { # of both programs
+    objdump -T "$prefix"/bin/warcdx{,-gz} | grep --only-matching 'GLIBC_[0-9.]*' | sort --version-sort
 }
 
 other_modes() { # FOLDER: files of other modes than 644, programs and folders of others than 755
@@ -75,6 +77,10 @@ absent_scripts() { # that the pages of the examples and samples name, and that a
     done
 }
 
+in_order() { # WORD..
+    printf '%s\n' "$@" | LC_ALL=C sort | in_a_line
+}
+
 in_a_line() {
     paste --serial --delimiters=' '
 }
@@ -90,7 +96,7 @@ check_tar_file() {
     expect "checksums of the contents" "" "$(cd "$prefix" && sha256sum --quiet --check share/doc/warcdx/SHA256SUMS 2>&1)"
     expect "number of checksums" "$(find "$prefix" -type f ! -name SHA256SUMS | wc -l)" "$(wc -l < "$doc/SHA256SUMS")"
     expect "files of the repository" "" "$(differing_files << END
-share/doc/warcdx/python/bin/warcdx-gz:python/bin/warcdx-gz
+share/doc/warcdx/python/bin/warcdx-update:python/bin/warcdx-update
 share/man/man1/warcdx.1:docs/warcdx.1
 share/man/man1/warcdx-gz.1:docs/warcdx-gz.1
 share/bash-completion/completions/warcdx:completions/warcdx.bash
@@ -116,18 +122,23 @@ END
     check_command "links of its pages" "$root/tools/check_links.py" "$doc"
 }
 
-check_program() {
+check_program() { # NAME
+    expect "$1 on the PATH" "$prefix/bin/$1" "$(installed bash -c "type -P $1")"
+    expect "symbols of $1" "nm: $prefix/bin/$1: no symbols" "$(nm "$prefix/bin/$1" 2>&1)"
+    expect "libraries of $1" libc.so.6 "$(libraries "$1" | in_a_line)"
+    expect "version in the help of $1" "$1 $version" "$(installed "$1" --help | head --lines=1 | grep --only-matching "^$1 [0-9.]*")"
+    expect "manual page of $1" "$prefix/share/man/man1/$1.1" "$(installed MANPATH="$prefix/share/man" man -w "$1")"
+}
+
+check_programs() {
     local found=$work/wget.cdxj
     expect "no rt on the PATH" "" "$(installed bash -c 'type -P rt')"
-    expect "warcdx on the PATH" "$prefix/bin/warcdx" "$(installed bash -c 'type -P warcdx')"
-    expect "symbols of the program" "nm: $prefix/bin/warcdx: no symbols" "$(nm "$prefix/bin/warcdx" 2>&1)"
-    expect "libraries of the program" libc.so.6 "$(libraries | in_a_line)"
+    check_program warcdx
+    check_program warcdx-gz
     expect "version of the C library" GLIBC_2.34 "$(library_versions | tail --lines=1)" # as docs/INSTALL.md says
-    expect "version in the help" "warcdx $version" "$(installed warcdx --help | head --lines=1 | grep --only-matching '^warcdx [0-9.]*')"
-    expect "manual page" "$prefix/share/man/man1/warcdx.1" "$(installed MANPATH="$prefix/share/man" man -w warcdx)"
     expect "Python package of the tar file" "1 gone" "$(installed warcdx get 11387 "$doc/samples/wget.warc" | "$doc/examples/body.py" | sed 's/^/1 /')"
     gzip --stdout "$doc/samples/response.warc" > "$work/response.warc.gz"
-    expect "warcdx-gz of the tar file" "0 $(stat --format=%s "$work/response.warc.gz") response" "$(installed warcdx-gz list "$work/response.warc.gz")"
+    expect "a compressed archive" "0 $(stat --format=%s "$work/response.warc.gz") response" "$(installed warcdx-gz list "$work/response.warc.gz")"
     expect "files of each command" "" "$(absent_files)"
     expect "commands of the tar file" "" "$(silent_commands installed "$prefix/bin")"
     installed warcdx index "$doc/samples/wget.warc" > "$found"
@@ -199,9 +210,9 @@ check_wheel() {
     check_command "wheel: installed by pip" "$environment/bin/pip" install --no-index --quiet --disable-pip-version-check "$wheel"
     expect "wheel: version" "$version" "$(in_environment python -c 'import warcdx; print(warcdx.__version__)')"
     expect "wheel: version for pip" "Version: $version" "$(in_environment pip show warcdx | grep '^Version')"
-    expect "wheel: program" "" "$(diff "$prefix/bin/warcdx" "$environment/bin/warcdx" 2>&1)"
+    expect "wheel: programs" "" "$(for name in warcdx warcdx-gz; do diff "$prefix/bin/$name" "$environment/bin/$name" 2>&1; done)"
     expect "wheel: modes" "" "$(find "$environment/bin" -name 'warcdx*' ! -perm 755)"
-    expect "wheel: commands" "$(cd "$root/python/bin" && echo warcdx *)" "$(cd "$environment/bin" && echo warcdx*)"
+    expect "wheel: commands" "$(cd "$root/python/bin" && in_order warcdx warcdx-gz warcdx-*)" "$(cd "$environment/bin" && in_order warcdx*)"
     expect "wheel: what the commands print" "" "$(silent_commands in_environment "$environment/bin")"
     "$environment/bin/warcdx" index "$doc/samples/wget.warc" > "$found"
     expect "wheel: the program is found without the PATH" 33 "$(env --ignore-environment PATH=/usr/bin:/bin "$environment/bin/python" -c \
@@ -242,9 +253,9 @@ check_planted_modules() {
     cp --recursive "$prefix/." "$shared/release"
     for folder in "$shared" "$shared"/{python,gateway} "$shared/release" "$shared/release"/{bin,python,gateway} "$work/current"; do
         for module in warcdx warcdx_gateway; do
-            if [ -f "$folder/$module" ]; then continue; fi # the program
+            if [ -f "$folder/$module" ]; then continue; fi # a program
             mkdir -p "$folder/$module"
-            echo "print('PLANTED'); raise SystemExit" | tee "$folder/$module"/{__init__,command,program,gz_command,verify_command,update_command}.py > "$work/output"
+            echo "print('PLANTED'); raise SystemExit" | tee "$folder/$module"/{__init__,command,program,cdx_command,verify_command,update_command}.py > "$work/output"
         done
         for module in argparse ctypes json pathlib re signal subprocess; do
             echo "print('PLANTED $module'); raise SystemExit" > "$folder/$module.py"
@@ -265,9 +276,11 @@ copy_for_owner_alone() { # FOLDER: copies the checkout, whose files only their o
     chmod --recursive go-rwx "$1"
 }
 
-check_same_again() { # PROGRAM
+check_same_again() { # PROGRAM [GZ_PROGRAM]
+    local program gz_program
+    read_programs "$@"
     copy_for_owner_alone "$work/copy"
-    (umask 077 && TZ=Pacific/Kiritimati LC_ALL=C "$work/copy/tools/release" --output "$work/again" "$1" > "$work/output")
+    (umask 077 && TZ=Pacific/Kiritimati LC_ALL=C "$work/copy/tools/release" --output "$work/again" "$program" "$gz_program" > "$work/output")
     expect "the same release again" "" "$(diff "$folder/SHA256SUMS" "$work/again/SHA256SUMS" 2>&1)"
     expect "modes of the files of a release" "" "$(find "$work/again" -type f ! -perm 644)"
 }
@@ -277,9 +290,9 @@ tar --extract --file "$tar_file" --directory "$work"
 dpkg-deb --extract "$package" "$debian"
 install -D --mode=644 "$root/LICENSE" "$debian/usr/share/common-licenses/Apache-2.0" # as Debian has it
 check_tar_file
-check_program
+check_programs
 check_debian_package
 check_wheel
 check_planted_modules
-if [ $# = 2 ]; then check_same_again "$2"; fi
+if [ $# -ge 2 ]; then check_same_again "${@:2}"; fi
 end_script

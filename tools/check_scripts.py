@@ -29,8 +29,8 @@ from program import MISSING, ROOT, USAGE, Report, need, parser_of
 
 KINDS = ("shell", "python", "usage")
 SECONDS = 20
-# The wrapper passes all arguments to the program, and the others take none.
-WITHOUT_USAGE = ("warcdx", ".ci/run", "samples/make.py")
+# The wrappers pass all arguments to the programs, and the others take none.
+WITHOUT_USAGE = ("warcdx", "warcdx-gz", ".ci/run", "samples/make.py")
 
 
 def scripts() -> Iterator[tuple[pathlib.Path, str]]:

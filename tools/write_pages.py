@@ -132,7 +132,7 @@ def main() -> int:
         path = ROOT / name
         text = path.read_text()
         for part, made in Page(path).parts():
-            title = f"{name}: {part['kind']}{part['words']}"
+            title = " ".join((f"{name}: {part['kind']}", *part["words"].split()))
             if not is_check:
                 text = text.replace(part[0], part["begin"] + made + part["end"])
             elif part["text"] == made:

@@ -81,7 +81,7 @@ Version: $version
 Architecture: amd64
 Maintainer: $(maintainer)
 Installed-Size: $(installed_size "$1")
-Depends: adduser, libc6 (>= $(c_library_version "$1/usr/bin/warcdx"))
+Depends: adduser, libc6 (>= $(c_library_version "$1"/usr/bin/warcdx{,-gz}))
 Recommends: python3 (>= 3.9)
 Suggests: gunicorn, nginx-light, python3-distributed, python3-matplotlib, python3-prometheus-client, python3-regex, python3-tqdm, python3-werkzeug
 Section: web
@@ -93,7 +93,7 @@ Description: indexer of web archives, with queries over the indexes
  It lists and verifies the records of archives, reports where they are damaged,
  makes, merges and checks indexes, and answers queries in the manner of the
  Wayback CDX Server API, page by page. It fetches records from their offsets.
- The command warcdx-gz does the same for compressed archives, and a Python
+ The program warcdx-gz does the same for compressed archives too, and a Python
  package from programs. The command warcdx-verify checks the digests of blocks
  and payloads, and warcdx-cdx converts CDX files of eleven columns. The command
  warcdx-gateway is an HTTP server for the clients of Wayback CDX servers; it
@@ -109,6 +109,6 @@ installed_size() { # FOLDER: in kB, as dpkg-gencontrol counts, whatever the file
     find "$1/usr" "$1/lib" -printf '%y %s\n' | awk '{ size += $1 == "f" ? int(($2 + 1023) / 1024) : 1 } END { print size }'
 }
 
-c_library_version() { # PROGRAM: the latest version of the C library of which it needs a symbol
-    objdump -T "$1" | grep --only-matching 'GLIBC_[0-9.]*' | sort --version-sort | sed -n '$s/GLIBC_//p'
+c_library_version() { # PROGRAM..: the latest version of the C library of which one of them needs a symbol
+    objdump -T "$@" | grep --only-matching 'GLIBC_[0-9.]*' | sort --version-sort | sed -n '$s/GLIBC_//p'
 }
