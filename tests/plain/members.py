@@ -2,11 +2,12 @@
 import zlib
 from typing import NamedTuple, Optional
 
-from plain import records
+from plain import inflate, records
 from plain.records import Damage, Fault, Record
 
 MAGIC = b"\x1f\x8b"
 GZIP = 16 + zlib.MAX_WBITS
+FHCRC, FEXTRA, FNAME, FCOMMENT = (1 << bit for bit in range(1, 5))
 
 
 class Read(NamedTuple):
@@ -57,11 +58,41 @@ def read_member(archive: bytes, offset: int) -> Member:
     inflater = zlib.decompressobj(GZIP)
     try:
         text = inflater.decompress(packed)
-    except zlib.error:
-        raise Damage("BadMember") from None
+    except zlib.error as error:
+        raise Damage(cause_of(packed) if "invalid code lengths set" in str(error) else "BadMember") from None
     if not inflater.eof:
-        raise Damage("CutMember")
+        raise Damage(cause_of(packed) if waits_for_lengths(inflater) else "CutMember")
     return Member(len(packed) - len(inflater.unused_data), text)
+
+
+def waits_for_lengths(inflater: "zlib._Decompress") -> bool:
+    """Whether zlib may wait for lengths that are coded by no code. Whatever the bits are, it then refuses them."""
+    try:
+        inflater.copy().decompress(bytes(400))
+    except zlib.error as error:
+        return "missing end-of-block" in str(error)
+    return False
+
+
+def cause_of(packed: bytes) -> str:
+    """The cause for which a member isn't whole. Where one code or none codes the lengths, zlib refuses data that are only cut, and the other way round."""
+    try:
+        inflate.unpack(packed[header_length(packed) :])
+    except inflate.Cut:
+        return "CutMember"
+    except inflate.Bad:
+        return "BadMember"
+    return "CutMember"  # in its trailer
+
+
+def header_length(packed: bytes) -> int:
+    flags, at = packed[3], 10
+    if flags & FEXTRA:
+        at += 2 + int.from_bytes(packed[at : at + 2], "little")
+    for flag in (FNAME, FCOMMENT):
+        if flags & flag:
+            at = packed.index(0, at) + 1
+    return at + 2 if flags & FHCRC else at
 
 
 def record_of(member: Member) -> Record:

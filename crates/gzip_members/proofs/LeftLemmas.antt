@@ -1,14 +1,14 @@
 -- A member is read to its end.
-use Rattle.std.proofs.Common.{◌≡◌, ℕ, zero, suc, add-zero, ◌+◌, ◌-◌, ◌*◌, ◌^◌, ◌<◌, ◌≤◌, ◌⊎◌, Bool, true, false, nat_lt, [], length, refl, ap, ◌∙◌, inl, inr, arith, length-drop}
+use Rattle.std.proofs.Common.{◌≡◌, ℕ, zero, suc, add-zero, ◌+◌, ◌-◌, ◌*◌, ◌^◌, ◌<◌, ◌≤◌, ◌⊎◌, Bool, true, false, not, nat_lt, [], length, refl, ap, ◌∙◌, inl, inr, arith, length-drop}
 use Rattle.std.specs.Bool.{if◌then◌else◌}
 use Rattle.std.specs.Prelude.{◌||◌}
-use Rattle.std.proofs.lemmas.Bool.{le-ltb, lt-ltb}
+use Rattle.std.proofs.lemmas.Bool.{le-ltb, lt-ltb, true≢false}
 use Rattle.deflate_bits.specs.declared.fault.DeflateFault.{DeflateFault}
 use Rattle.gzip_members.specs.declared.body.Stage.{Stage}
 use Rattle.gzip_members.specs.declared.body.Stage.TheVariants.{Refused}
 use Rattle.gzip_members.specs.Windows.{WindowView, pending}
 use Rattle.gzip_members.specs.Bodies.{is_over, parts_left, GoesOn}
-use Rattle.gzip_members.specs.Left.{work_left}
+use Rattle.gzip_members.specs.Left.{waits, work_left}
 
 -- what is to be done where something is to be done
 work-is : (stage : Stage) (w : WindowView) (passed held : ℕ) → is_over stage ≡ false → pending w ≡ []
@@ -53,6 +53,17 @@ goes-further p passed zero held mid near few (inl more) =
 goes-further p passed zero held mid near few (inr much) = absurd (omega arith)
 goes-further p passed (suc n) held mid near few read = taken_on p passed (suc n) held (mid - suc n) near (omega arith)
 
+at_most : (a b c : ℕ) → a ≤ b → b ≤ c → a ≤ c
+at_most a b c h k = omega arith
+
+no_further : (p passed taken held : ℕ) → passed + taken ≤ 2 ^ 63 - 1 → taken ≤ held
+    → suc (p * 2 ^ 80 + (2 ^ 63 - (passed + taken)) * 8193 + (8192 - (held - taken))) ≤ suc (p * 2 ^ 80 + (2 ^ 63 - passed) * 8193 + (8192 - held))
+no_further p passed taken held near inside = omega arith
+
+done-by : (b : Bool) (n m : ℕ) → not b ≡ false → (if b then 0 else n) < suc m
+done-by true n m e = omega arith
+done-by false n m e = absurd (true≢false e)
+
 falls : (old new : Stage) (w v : WindowView) (is_whole : Bool) (passed passed' held mid held' taken : ℕ)
     → is_over old ≡ false → pending w ≡ [] → passed ≤ 2 ^ 63 - 1 → passed' ≤ 2 ^ 63 - 1
     → passed' ≡ passed + taken → held' ≡ mid - taken → taken ≤ mid
@@ -76,6 +87,36 @@ pub work-falls : (old new : Stage) (w v : WindowView) (is_whole : Bool) (passed 
     → work_left new v passed' held' < work_left old w passed held
 work-falls old new w v is_whole passed passed' held mid held' taken more given near near' count left inside read on =
     falls old new w v is_whole passed passed' held mid held' taken more given near near' count left inside read on
+
+-- where nothing was read, no more is to be done than before
+kept-by : (old new : Stage) (w v : WindowView) (is_whole : Bool) (passed passed' held held' taken : ℕ)
+    → is_over old ≡ false → pending w ≡ [] → passed' ≤ 2 ^ 63 - 1 → passed' ≡ passed + taken → held' ≡ held - taken
+    → taken ≤ held → GoesOn old new v is_whole (held - taken)
+    → work_left new v passed' held' ≤ work_left old w passed held
+kept-by old new w v is_whole passed passed' held held' taken more given near count left inside (inl part) =
+    rw (work-is old w passed held more given)
+    (omega (arith, least-of _ _ _ (work-most (is_over new) (nat_lt v.given (length v.text)) _)
+      (fewer (parts_left old) (parts_left new) passed passed' held held' near part)))
+kept-by old new w v is_whole passed passed' held held' taken more given near count left inside (inr (inl text)) =
+    rw (work-is old w passed held more given, none-left (is_over new) v.given (length v.text) _ text) (omega arith)
+kept-by old new w v is_whole passed passed' held held' taken more given near count left inside (inr (inr (same, waits, few))) =
+    rw (work-is old w passed held more given, count, left)
+    (at_most _ _ _ (work-most (is_over new) (nat_lt v.given (length v.text)) _)
+    (rw same (no_further (parts_left old) passed taken held (omega arith) inside)))
+
+pub work-kept : (old new : Stage) (w v : WindowView) (is_whole : Bool) (passed passed' held held' taken : ℕ)
+    → is_over old ≡ false → pending w ≡ [] → passed' ≤ 2 ^ 63 - 1 → passed' ≡ passed + taken → held' ≡ held - taken
+    → taken ≤ held → GoesOn old new v is_whole (held - taken)
+    → work_left new v passed' held' ≤ work_left old w passed held
+work-kept old new w v is_whole passed passed' held held' taken more given near count left inside on =
+    kept-by old new w v is_whole passed passed' held held' taken more given near count left inside on
+
+-- where there is text or the end, nothing is to be done
+pub work-done : (old new : Stage) (w v : WindowView) (passed passed' held held' : ℕ)
+    → is_over old ≡ false → pending w ≡ [] → waits new v ≡ false
+    → work_left new v passed' held' < work_left old w passed held
+work-done old new w v passed passed' held held' more given over =
+    rw (work-is old w passed held more given) (done-by (is_over new || nat_lt v.given (length v.text)) _ _ over)
 
 -- also where no more is read
 pub work-ends : (old : Stage) (fault : DeflateFault) (w v : WindowView) (passed passed' held held' : ℕ) → is_over old ≡ false → pending w ≡ []

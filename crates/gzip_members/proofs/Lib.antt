@@ -14,3 +14,5 @@ pub mod OverLemmas
 pub mod MovesLemmas
 mod SkipLemmas
 pub mod TextLemmas
+pub mod StayLemmas
+pub mod AloneLemmas

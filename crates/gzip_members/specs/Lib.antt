@@ -7,3 +7,4 @@ pub mod Unpacking
 pub mod Bodies
 pub mod Left
 pub mod Faults
+pub mod Laws

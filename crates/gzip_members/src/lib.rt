@@ -5,6 +5,7 @@ mod body;
 mod checked_input;
 mod fault;
 mod header;
+mod laws;
 mod member_text;
 mod members;
 mod read_ahead;
@@ -15,6 +16,10 @@ mod window;
 pub use crate::body::{Body, Stage};
 pub use crate::checked_input::CheckedInput;
 pub use crate::fault::MemberFault;
+pub use crate::laws::{
+    bytes_behind_a_member_stay_behind, members_are_read_from_their_own_bytes,
+    no_member_begins_another,
+};
 pub use crate::member_text::{MemberText, Outcome};
 pub use crate::members::Members;
 pub use crate::read_ahead::ReadAhead;

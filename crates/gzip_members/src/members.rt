@@ -1,6 +1,6 @@
 //! The members of a file, one after another.
 ghost use Rattle.std.specs.Io.KnownBytes.{prepend_known, IsAtEnd};
-ghost use Rattle.std.specs.Prelude.{◌≡◌, ◌+◌, ◌-◌, ◌^◌, ◌≤◌, ◌<◌, [], true, false, length, take};
+ghost use Rattle.std.specs.Prelude.{◌≡◌, ◌⊎◌, ◌+◌, ◌-◌, ◌^◌, ◌≤◌, ◌<◌, [], true, false, length, take};
 ghost use Rattle.std.specs.Prelude.{Ok, IfOk, OnOk, OnErr, Bool, Err, Some, Result, List, ℕ};
 ghost use Rattle.deflate_bits.specs.declared.fault.DeflateFault.{DeflateFault};
 ghost use Rattle.devices.specs.Device.{CountsFailure};
@@ -33,6 +33,7 @@ impl<I: Input> Members<I> {
     ghost use Rattle.gzip_members.specs.Left.{BeginsMember, EndsMember, GivesText, RefusesMember};
     ghost use Rattle.gzip_members.specs.Left.{PassesRest, PassesText, SkipsText, left_of, waits};
     ghost use Rattle.gzip_members.specs.Left.{work_left};
+    ghost use Rattle.gzip_members.specs.declared.read_ahead.TheConstants.{MOST_HELD};
 
     /// Creates a file of which nothing was read. The only error is refused memory.
     pub fn new(alloc: Global, input: I) -> Result<Members<I>, AllocError>
@@ -60,7 +61,7 @@ impl<I: Input> Members<I> {
     }
 
     /// Passes over the next `count` bytes of the file, or all if there are fewer, and returns
-    /// whether there were so many. A member that was begun is not read further. The only error is
+    /// whether there were enough. A member that was begun is not read further. The only error is
     /// the input's failure.
     pub fn pass_over(&mut self, count: u64) -> Result<bool, DeviceFault>
         requires { self.old.source.passed + count ≤ 2 ^ 63 - 1 }
@@ -110,8 +111,37 @@ impl<I: Input> Members<I> {
         }
     }
 
-    /// Goes on in the member, of which all text was given out. The only error is the input's
-    /// failure.
+    /// Goes on over the bytes that are held of the member, of which all text was given out.
+    /// `is_whole` says that nothing comes behind them.
+    fn step(&mut self, is_whole: bool)
+        requires more { is_over self.old.body.stage ≡ false }
+        requires given { pending self.old.body.window ≡ [] }
+        requires end { is_whole ≡ true → IsAtEnd (I.remaining self.old.source.input) }
+        ensures left { (r : Result (List ℕ × List ℕ) DeflateFault) → left_of self.old ≡ Some r
+            → left_of self.new ≡ Some r }
+        ensures input { self.new.source.input ≡ self.old.source.input }
+        ensures moves { Moves (taken self.old.source) (taken self.new.source) }
+        ensures back { work_left self.new.body.stage self.new.body.window
+            self.new.source.passed (length self.new.source.ahead)
+            ≤ work_left self.old.body.stage self.old.body.window
+            self.old.source.passed (length self.old.source.ahead) }
+        ensures nearer { (held : ℕ) → (is_whole ≡ false → (held < length self.old.source.ahead)
+            ⊎ (MOST_HELD ≤ length self.old.source.ahead))
+            → work_left self.new.body.stage self.new.body.window
+            self.new.source.passed (length self.new.source.ahead)
+            < work_left self.old.body.stage self.old.body.window self.old.source.passed held }
+    {
+        let taken = self
+            .body
+            .step(&self.source.crc, self.source.ahead.as_slice(), is_whole);
+        if !self.source.take(taken) {
+            self.is_too_far = true;
+            self.body.refuse(DeflateFault::Bad);
+        }
+    }
+
+    /// Goes on in the member, of which all text was given out, and reads only if what is held
+    /// isn't enough. The only error is the input's failure.
     fn advance(&mut self) -> Result<(), DeviceFault>
         requires more { is_over self.old.body.stage ≡ false }
         requires given { pending self.old.body.window ≡ [] }
@@ -126,13 +156,10 @@ impl<I: Input> Members<I> {
             < work_left self.old.body.stage self.old.body.window
             self.old.source.passed (length self.old.source.ahead)) }
     {
-        let is_whole = self.source.read_more()?;
-        let taken = self
-            .body
-            .step(&self.source.crc, self.source.ahead.as_slice(), is_whole);
-        if !self.source.take(taken) {
-            self.is_too_far = true;
-            self.body.refuse(DeflateFault::Bad);
+        self.step(false);
+        if self.waits() {
+            let is_whole = self.source.read_more()?;
+            self.step(is_whole);
         }
         Ok(())
     }

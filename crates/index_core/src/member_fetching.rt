@@ -82,7 +82,7 @@ fn copy<I: Input, O: Output>(
     copy_known::<I, Brand, O>(members, reader, head, out)
 }
 
-/// Returns whether a member has the length that was asked for, if one was.
+/// Returns whether a member has the wanted length, if one is wanted.
 fn has_length(asked: Option<u64>, length: u64) -> bool
     ensures { IsTrue result ↔ IsOfLength asked length }
 {

@@ -103,8 +103,8 @@ const PIECES: &[(usize, &[u64])] = &[
     (1_000, &[0, 372]),
 ];
 
-/// A piece is read ahead while a record is read whose bytes may all be held. So the fault is at the
-/// record of the piece's first byte, or at one before.
+/// A piece is read only if what is held isn't enough. So the fault is at the record of the piece's
+/// first byte.
 #[test]
 fn a_listing_ends_at_a_failed_read_of_a_piece(rt: HostRuntime) -> Result<(), Refused> {
     let alloc = rt.alloc();
@@ -113,14 +113,10 @@ fn a_listing_ends_at_a_failed_read_of_a_piece(rt: HostRuntime) -> Result<(), Ref
         for (number, start) in starts.iter().enumerate() {
             let byte = *start;
             let at = (*piece, number as u64 + 1);
-            let mut is_ended = listing_ends(alloc, &archive, at, 0)?;
-            if byte >= 207 && !is_ended {
-                is_ended = listing_ends(alloc, &archive, at, 207)?;
-            }
-            if byte == 372 && !is_ended {
-                is_ended = listing_ends(alloc, &archive, at, 372)?;
-            }
-            assert!(rt; is_ended, "{piece} {byte}");
+            assert!(rt;
+                listing_ends(alloc, &archive, at, record_of_byte(byte))?,
+                "{piece} {byte}"
+            );
         }
     }
     Ok(())

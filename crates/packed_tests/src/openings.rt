@@ -157,7 +157,7 @@ const FAILED: Reports = Reports {
     answer: Err(Cause::Read),
 };
 
-/// An archive of one byte is looked at twice, for its byte and for its end.
+/// An archive of one byte is read twice before it opens, for its byte and for its end.
 #[test]
 fn an_input_that_fails_at_its_first_or_second_byte_is_at_fault(
     rt: HostRuntime,

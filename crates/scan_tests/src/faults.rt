@@ -121,7 +121,7 @@ fn numbered(
         inputs.items) }
 {
     let mut inputs = Vec::new(alloc);
-    for i in 0..count {
+    'archives: for i in 0..count {
         inputs.push(Named {
             name: format!(in alloc; "{i}")?,
             archive: PlainArchive::new(alloc, Fuse::new(Slice::new(RESOURCE), 8_192, 0)),

@@ -87,7 +87,7 @@ fn inputs<'a>(
         inputs.items) }
 {
     let mut inputs = Vec::new(alloc);
-    for (i, ((name, _pieces), text)) in archives.iter().zip(texts).enumerate() {
+    'archives: for (i, ((name, _pieces), text)) in archives.iter().zip(texts).enumerate() {
         let at = if i == devices.archive {
             devices.failing_read
         } else {

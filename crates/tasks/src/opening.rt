@@ -88,9 +88,10 @@ pub trait Opener {
         ensures { HasTold (input_bytes self.now) (Self.Lines.remaining result) };
 }
 
-/// An archive of the system, as it is read: standard input, or a file.
+/// An archive of the system, as it is read: standard input, or a file. The reader of standard input has a large buffer.
+/// It is apart, so that an archive is small where it is moved.
 pub type SystemInput<R> = Either<
-    FromRead<<R as io::Input>::Reader>,
+    FromRead<Box<<R as io::Input>::Reader>>,
     FromFile<SystemFile<<R as Files>::File>>,
 >;
 
@@ -159,7 +160,10 @@ fn open_input<R: Runtime + AllocGlobal>(
     ensures { IfErr result (IsUnopened ⊤) }
 {
     if name == "-" {
-        return Ok(Either::Left(FromRead::new(console.rt.reader())));
+        return match Box::new(console.alloc(), console.rt.reader()) {
+            Ok(reader) => Ok(Either::Left(FromRead::new(reader))),
+            Err(_) => Err(Outcome::Index(IndexFault::Memory)),
+        };
     }
     match FromFile::new(SystemFile(open_file(console, name)?)) {
         Ok(file) => Ok(Either::Right(file)),
