@@ -22,3 +22,7 @@ mod OneTextLemmas
 mod OneRecordLemmas
 mod OneAddLemmas
 mod FailedLemmas
+pub mod PackedRowLemmas
+pub mod PackedCaptureLemmas
+pub mod PackedPlaceLemmas
+pub mod PackedFetchLemmas

@@ -12,6 +12,8 @@ pub mod Copying
 pub mod Counting
 pub mod Laws
 pub mod FetchingLaws
+pub mod PackedLaws
+pub mod PackedFetching
 pub mod OneText
 pub mod Limits
 -- what contracts see of archives

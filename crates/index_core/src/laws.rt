@@ -4,6 +4,9 @@ ghost use Rattle.index_core.specs.Laws.{AcceptedIsWhole, OneIndexed, OneIndexedT
 ghost use Rattle.index_core.specs.Laws.{OneStands, SomeStands, WholeIsNotRefused, WholeStays};
 ghost use Rattle.index_core.specs.Laws.{CapturesStay, PlainIsDamaged, PlainIsWhole};
 ghost use Rattle.index_core.specs.FetchingLaws.{LengthAgrees, OffsetAgrees, CapturesAreFetched};
+ghost use Rattle.index_core.specs.PackedFetching.{PackedCapturesAreFetched, PackedCapturesStand};
+ghost use Rattle.index_core.specs.PackedLaws.{MembersAreAccepted, MembersAreRecords};
+ghost use Rattle.index_core.specs.PackedLaws.{MembersHaveCaptures};
 ghost use Rattle.index_core.specs.OneText.{ListsOneText, ListsPart, VerifiesOneText, VerifiesPart};
 ghost use Rattle.index_core.specs.OneText.{FetchesOneText, FetchesFront, FetchesAtOneText};
 ghost use Rattle.index_core.specs.OneText.{FetchesAtFront, AddsOneList, AddsFirst, WritesOneIndex};
@@ -64,6 +67,23 @@ pub fn accepted_archive_is_not_refused()
 pub fn accepted_archive_stays_accepted()
     ensures whole { WholeStays }
     ensures captures { CapturesStay }
+{}
+
+/// A compressed archive of a member of each record of a plain one consists of these records, each at
+/// its member's place. It has the captures of the plain one, but for their offsets and lengths. It
+/// is accepted whole if the plain one is, unless a line becomes too long by the digits of its place.
+pub fn packed_records_keep_their_captures()
+    ensures records { MembersAreRecords }
+    ensures captures { MembersHaveCaptures }
+    ensures accepted { MembersAreAccepted }
+{}
+
+/// At the offset of each capture of a compressed archive, a member begins that is as long as the
+/// capture says. It holds one record, and the capture is that record's. Both forms of `get` write
+/// its text there.
+pub fn packed_captures_stand_in_members()
+    ensures stand { PackedCapturesStand }
+    ensures fetched { PackedCapturesAreFetched }
 {}
 
 /// The archive decides what `get` and `get_at` return and write, unless a device fails or memory
