@@ -104,7 +104,7 @@ class Check:
     def _words_of(self, said: str) -> str:
         """Returns the first message of the program on one line, with the path of its file."""
         first, *rest = said.split("\n")
-        text = first.removeprefix("warcdx: ")
+        text = first.removeprefix("warcdx: ").removeprefix("warcdx-gz: ")
         for name, path in zip(self._names, self._paths):
             if text.startswith(f"{name}: "):
                 text = path + text.removeprefix(name)

@@ -48,12 +48,17 @@ class Build(Case):
             self.assertEqual(0o755, wheel.getinfo(script).external_attr >> 16 & 0o777)
         self.assertEqual(0o644, wheel.getinfo("warcdx/index.py").external_attr >> 16 & 0o777)
 
-    def test_a_wheel_with_the_program_names_the_c_library(self) -> None:
-        program = self.put("the program", "program")
-        name = build_backend.build_program_wheel(str(self.folder), program, "2.34")
+    def test_a_wheel_with_the_programs_names_the_c_library(self) -> None:
+        programs = ("warcdx", "warcdx-gz")
+        for program in programs:
+            self.put(f"the program {program}", program)
+        name = build_backend.build_program_wheel(str(self.folder), self.folder, "2.34")
         self.assertEqual(f"warcdx-{VERSION}-py3-none-manylinux_2_34_x86_64.whl", name)
         with zipfile.ZipFile(self.folder / name) as wheel:
-            self.assertEqual(b"the program", wheel.read(f"warcdx-{VERSION}.data/scripts/warcdx"))
+            for program in programs:
+                script = f"warcdx-{VERSION}.data/scripts/{program}"
+                self.assertEqual(f"the program {program}", wheel.read(script).decode())
+                self.assertEqual(0o755, wheel.getinfo(script).external_attr >> 16 & 0o777)
             self.assertIn(b"Tag: py3-none-manylinux_2_34_x86_64\n", wheel.read(f"warcdx-{VERSION}.dist-info/WHEEL"))
 
     def test_the_same_files_make_the_same_bytes(self) -> None:

@@ -1,5 +1,5 @@
 #!/usr/bin/env python3
-"""Checks how ./warcdx and tools/build.py build the program, and how tests/run ends, with a script in the place of rt.
+"""Checks how ./warcdx, ./warcdx-gz and tools/build.py build the programs, and how tests/run ends, with a script in the place of rt.
 
 usage: building.py
 
@@ -38,10 +38,10 @@ if crate == os.environ["KILLED"]:
 time.sleep(float(os.environ["DELAY"]))
 pathlib.Path("out/rlib").mkdir(parents=True, exist_ok=True)
 if sys.argv[1] == "run":
-    program = pathlib.Path("out/warcdx")
+    program = pathlib.Path("out", crate)
     program.write_text('#!/bin/sh\\necho "$@"\\n')
     program.chmod(0o755)
-    pathlib.Path("out/warcdx.stamp").touch()
+    program.with_suffix(".stamp").touch()
 """
 LONG = 60.0  # seconds, of a run that is waited for only if something is wrong
 CRATES = 26
@@ -66,7 +66,7 @@ class Checkout:
         self.rt = work / "bin/rt"
         for crate in (ROOT / "crates").iterdir():
             shutil.copytree(crate, self.folder / "crates" / crate.name, ignore=shutil.ignore_patterns("out"))
-        for name in ("crates.txt", "warcdx", "tools/build.py", "tests/run", "tests/program.py"):
+        for name in ("crates.txt", "warcdx", "warcdx-gz", "tools/build.py", "tools/built_program.sh", "tests/run", "tests/program.py"):
             (self.folder / name).parent.mkdir(exist_ok=True)
             shutil.copy(ROOT / name, self.folder / name)
         self.rt.parent.mkdir()
@@ -156,6 +156,11 @@ def check_ends(report: Report, checkout: Checkout) -> None:
     compare("its output", ended.output, "list a b\n")
     ended = checkout.build("./warcdx", "list", is_anew=False)
     compare("the program, which is built", (ended.output, ended.error, checkout.begun()), ("list\n", "", []))
+    ended = checkout.build("./warcdx-gz", "list", "a b", is_anew=False)
+    expect("the program for compressed archives", ended, 0, "built in")
+    compare("its output", ended.output, "list a b\n")
+    ended = checkout.build("./warcdx-gz", "list", is_anew=False)
+    compare("the same, which is built", (ended.output, ended.error, checkout.begun()), ("list\n", "", []))
     expect("a crate that isn't proved", checkout.build(script, failing="warc_head", delay=LONG), 1, "warc_head isn't proved; all that rt printed is in")
     expect("the same, by ./warcdx", checkout.build("./warcdx", "list", failing="devices", delay=LONG), 3, "the build failed after")
     expect("a run that is killed", checkout.build(script, killed="devices", delay=LONG), 1, "devices isn't proved")

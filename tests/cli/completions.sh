@@ -97,6 +97,8 @@ warcdx serve |a.cdxj
 warcdx query url=x |a.cdxj
 warcdx pages 5 url=x |a.cdxj
 warcdx pages 5 url=x a.cdxj |a.cdxj
+warcdx-gz merge |a.cdxj
+warcdx-gz query url=x |a.cdxj
 END
 
 cd "$work/both"
@@ -112,20 +114,22 @@ warcdx-update --re|--recursive --remove --report
 warcdx-update --jobs |
 warcdx-update --remove |
 warcdx-update --scheduler |
-warcdx-gz |get index list verify
-warcdx-gz --w|--warcdx
-warcdx-gz --warcdx a.warc i|index
+warcdx-gz |$commands
+warcdx-gz se|serve
+warcdx-gz --|--help --version
+warcdx-gz index --|--help --name --types
 warcdx-gz index |a.warc b.warc.gz
-warcdx-gz index --t|--types
 warcdx-gz index --types re|resource response revisit
 warcdx-gz index --types response,re|response,resource response,revisit
 warcdx-gz index --types resource |a.warc b.warc.gz
 warcdx-gz list |a.warc b.warc.gz
 warcdx-gz list --t|
 warcdx-gz verify a.warc |a.warc b.warc.gz
+warcdx-gz scan 5 url=x |a.warc b.warc.gz
 warcdx-gz get |
+warcdx-gz get --l|--length
 warcdx-gz get 0 |a.warc b.warc.gz
-warcdx-gz --warcdx x get 0 |a.warc b.warc.gz
+warcdx-gz query |key= url=
 END
 
 cd "$work/cdx"

@@ -6,13 +6,14 @@
 # `mandoc -T lint -W warning` has to be silent. docs/warcdx.1 has to have the program's version; a synopsis and a section for each command that the
 # help lists; each exit status; each line of standard error of docs/COMMANDS.md; and each cause of docs/RECORDS.md and docs/QUERY.md.
 #
-# Each command in Python has to have a page with its options and the same version, and completions for bash, zsh and fish. SEE ALSO of each page
-# names all other pages.
+# docs/warcdx-gz.1 has to have the version, the commands and the options of warcdx-gz, and each cause of docs/COMPRESSED.md. Each command in Python has to
+# have a page with its options and the same version. Each page has completions for bash, zsh and fish, and its SEE ALSO names all other pages.
 #
 # Prints a line for each check, and the counts. The exit status is 0, or 1 if a check fails. Needs Debian's packages mandoc and bsdextrautils.
 set -euo pipefail
 source "$(dirname "$0")/../program.sh"
 read_program "$@"
+read_packed
 need mandoc col:bsdextrautils
 
 page=$root/docs/warcdx.1
@@ -68,6 +69,22 @@ options_of_help() { # COMMAND
 see_also() { # PAGE: the commands of the release that it names there
     mandoc -T utf8 -O width=200 "$1" | col -bx | sed -n '/^SEE ALSO/,/^[A-Z]*$/p' | grep --only-matching 'warcdx[a-z-]*(1)' | in_a_line
 }
+
+options_of_packed() {
+    local command
+    for command in $commands; do "$packed" "$command" --help; done | grep --only-matching -- '--[a-z][a-z-]*' | sort --unique
+}
+
+packed_causes() { # in the table of docs/COMPRESSED.md
+    grep --only-matching "^| \`[A-Z][A-Za-z]*\` |" "$root/docs/COMPRESSED.md" | tr --delete "\`| "
+}
+
+mandoc -T utf8 -O width=200 "$root/docs/warcdx-gz.1" | col -bx > "$work/page"
+expect "warcdx-gz: version" "$("$packed" --version)" "$(sed -n 's/.*of version \([0-9.]*[0-9]\)\.$/warcdx-gz \1/p' "$work/page")"
+expect "warcdx-gz: commands" "$commands" "$("$packed" --help | sed -n '/^Commands:/,/^$/s/^  \([a-z]*\) .*/\1/p' | in_a_line)"
+expect "warcdx-gz: synopses" "" "$(for command in $commands; do sed -n '/^SYNOPSIS/,/^DESCRIPTION/p' "$work/page" | grep --quiet --word-regexp "$command" || echo "$command"; done)"
+expect "warcdx-gz: options" "" "$(options_of_packed | while read -r option; do grep --quiet --fixed-strings -- "$option" "$work/page" || echo "$option"; done)"
+expect_on_page "warcdx-gz: causes" < <(packed_causes)
 
 pages=("$root"/docs/*.1)
 for page in "${pages[@]}"; do

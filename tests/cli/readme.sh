@@ -7,7 +7,7 @@
 # release that tools/release makes there. Both are in a folder with a space in its name.
 # tools/check_package.sh runs the commands for the package. The test command isn't run, nor the one
 # that builds the program without proofs. Without PROGRAM the clone builds its own, as README.md
-# says.
+# says. With it the clone has PROGRAM and the program for compressed archives that belongs to it.
 #
 # Prints a line for each block of commands, with the differences if there are any, and the counts.
 # The exit status is 0, or 1 if one differs. Needs git, gzip, python3, zsh and Debian's packages
@@ -15,7 +15,12 @@
 set -euo pipefail
 source "$(dirname "$0")/../program.sh"
 source "$root/tests/cli/pages.sh"
-if [ $# -gt 0 ]; then read_program "$@"; else program=; fi
+if [ $# -gt 0 ]; then
+    read_program "$@"
+    read_packed
+else
+    program=
+fi
 need dpkg-deb:dpkg git gzip objdump:binutils python3 strip:binutils zsh
 
 work=$(mktemp -d)
@@ -27,9 +32,9 @@ block() { # START
     block_of "$clone/README.md" "$1"
 }
 
-put_program() { # into the clone, as a build does
-    install -D "$program" "$clone/crates/warcdx/out/warcdx"
-    touch "$clone/crates/warcdx/out/warcdx.stamp"
+put_program() { # PROGRAM CRATE: puts it into the clone, as a build does
+    install -D "$1" "$clone/crates/$2/out/$2"
+    touch "$clone/crates/$2/out/$2.stamp"
 }
 
 # check_session CASE START FOLDER COMMAND..: runs the lines of a block that begin with "$ ", and
@@ -56,7 +61,10 @@ check_sessions() {
 }
 
 git clone --quiet "$root" "$clone"
-if [ -n "$program" ]; then put_program; fi
+if [ -n "$program" ]; then
+    put_program "$program" warcdx
+    put_program "$packed" warcdx_gz
+fi
 listed='0 264 response'
 
 expect 'a sample is listed, from source' "$listed" "$(block './warcdx list' | run_block "$clone" PATH="$PATH" bash)"

@@ -30,6 +30,7 @@ if [ "${1-}" = --print ]; then
     shift 2
 fi
 read_program "$@"
+read_packed
 need gnuplot:gnuplot-nox gzip jq parallel pv sqlite3 wget xxd "$shell"
 
 pages=("$root"/docs/recipes/{indexes,records,queries,counts,other-programs}.md)
@@ -123,6 +124,7 @@ make_stand_in() { # a module surt
 
 mkdir "$work/bin" "$work/files"
 ln -s "$program" "$work/bin/warcdx"
+ln -s "$packed" "$work/bin/warcdx-gz"
 prepare
 if ! python3 -c 'import surt' 2> /dev/null; then make_stand_in; fi
 if [ -n "$chosen" ]; then

@@ -24,15 +24,15 @@ from collections.abc import Iterator
 
 sys.path.insert(0, str(pathlib.Path(__file__).resolve().parents[1]))
 
-from program import ROOT, Report, add_program, find_program, parser_of
+from program import PACKED, ROOT, Report, add_program, find_packed_program, find_program, parser_of
 
 PAGES = (
-    "docs/CDX.md", "docs/COMMANDS.md", "docs/FAQ.md", "docs/PYWB.md", "docs/QUERY.md", "docs/VERIFY.md",
+    "docs/CDX.md", "docs/COMMANDS.md", "docs/COMPRESSED.md", "docs/FAQ.md", "docs/PYWB.md", "docs/QUERY.md", "docs/VERIFY.md",
     "examples/README.md",
 )  # fmt: skip
 BLOCK = re.compile(r"(?:^    .*\n|^\n(?=(?:\n)*    ))+", re.MULTILINE)
 COMMAND = re.compile(r"^\$ (.*)\n((?:(?!\$ ).*\n)*)", re.MULTILINE)
-NOT_RUN = ("socat", "examples/surt_keys.py")
+NOT_RUN = ("socat", "examples/surt_keys.py", "crawl.warc.gz", "whole.warc.gz")
 MARK = "-- end of command"
 STAND_IN = "def surt(url):\n    return url[::-1]\n"
 
@@ -67,6 +67,7 @@ def check_page(report: Report, name: str, program: pathlib.Path) -> None:
         for linked in ("samples", "examples"):
             pathlib.Path(folder, linked).symlink_to(ROOT / linked)
         pathlib.Path(folder, "warcdx").symlink_to(program)
+        pathlib.Path(folder, PACKED).symlink_to(find_packed_program(program))
         if importlib.util.find_spec("surt") is None:
             pathlib.Path(folder, "modules").mkdir()
             pathlib.Path(folder, "modules/surt.py").write_text(STAND_IN)

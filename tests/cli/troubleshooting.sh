@@ -15,6 +15,7 @@ set -euo pipefail
 
 source "$(dirname "$0")/../program.sh"
 read_program "$@"
+read_packed
 need flock:util-linux python3 wget xxd
 source "$(dirname "$0")/check_functions.sh"
 page=$root/docs/TROUBLESHOOTING.md
@@ -158,15 +159,11 @@ long_index() {
 }
 prints "the longest URL of a header" 1 long_index
 
-gz() {
-    "$root/python/bin/warcdx-gz" --warcdx "$program" "$@"
-}
-
 row "\`SeveralRecords\` of \`warcdx-gz\`"
 cat response.warc response.warc | gzip --no-name > whole.warc.gz
-prints "an archive in one member" "fault 0 SeveralRecords" gz list whole.warc.gz
+prints "an archive in one member" "fault 0 SeveralRecords" "$packed" list whole.warc.gz
 gunzip whole.warc.gz
-prints "unpacked" $'0 264 response\n264 264 response' gz list whole.warc
+prints "unpacked" $'0 264 response\n264 264 response' "$packed" list whole.warc
 
 row "\`CutMember\`, \`BadMember\`, \`NoMember\` of \`warcdx-gz\`"
 gzip --no-name --stdout response.warc > good.warc.gz
@@ -175,21 +172,16 @@ size=$(stat --format=%s good.warc.gz)
 { cat good.warc.gz && head --bytes=-8 good.warc.gz && printf '\0\0\0\0\0\0\0\0'; } > bad.warc.gz
 { cat good.warc.gz && echo; } > longer.warc.gz
 for case in cut:CutMember bad:BadMember longer:NoMember; do
-    prints "${case%:*}" $'0 '"$size"$' response\nfault '"$size ${case#*:}" gz list "${case%:*}.warc.gz"
+    prints "${case%:*}" $'0 '"$size"$' response\nfault '"$size ${case#*:}" "$packed" list "${case%:*}.warc.gz"
 done
 
-row "\`SeveralMembers\` of \`warcdx-gz\`"
-{ head -c 100 response.warc | gzip && tail -c +101 response.warc | gzip; } > two.warc.gz
-prints "a record in two members" "fault 0 SeveralMembers" gz list two.warc.gz
+row "\`ShortHead\`, \`ShortBlock\`, \`Closing\` of \`warcdx-gz\`"
+for case in 100:ShortHead 230:ShortBlock 262:Closing; do
+    { head -c "${case%:*}" response.warc | gzip && tail -c +"$((${case%:*} + 1))" response.warc | gzip; } > two.warc.gz
+    prints "a record in two members, cut at ${case%:*}" "fault 0 ${case#*:}" "$packed" list two.warc.gz
+done
 gunzip two.warc.gz
-prints "unpacked" "0 264 response" gz list two.warc
-
-row "\`NotCompressed\` in Python"
-in_python() { # TEXT
-    PYTHONPATH=$root/python python3 -c "import sys, warcdx.gz; $1" "$program"
-}
-shows "a plain archive" "warcdx.faults.NotCompressed" in_python "list(warcdx.gz.CompressedArchive('response.warc', program=sys.argv[1]).list())"
-prints "either form" 1 in_python "print(len(list(warcdx.gz.open_archive('response.warc', program=sys.argv[1]).list())))"
+prints "unpacked" "0 264 response" "$packed" list two.warc
 
 row "\`verify\` prints \`differs\` for revisits"
 crawl_twice
