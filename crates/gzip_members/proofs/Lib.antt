@@ -16,3 +16,4 @@ mod SkipLemmas
 pub mod TextLemmas
 pub mod StayLemmas
 pub mod AloneLemmas
+pub mod RowLemmas

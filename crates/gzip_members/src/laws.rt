@@ -3,7 +3,7 @@
 ghost use Rattle.std.specs.Prelude.{◌≡◌, ◌≢◌, ◌<◌, ℕ, true, ◌++◌, List, [], length, Result, Ok, Err};
 ghost use Rattle.inflate.specs.Laws.{followed};
 ghost use Rattle.gzip_members.specs.Members.{member_in};
-ghost use Rattle.gzip_members.specs.Laws.{IsMember};
+ghost use Rattle.gzip_members.specs.Laws.{IsMember, IsOfMembers};
 ghost use Rattle.gzip_members.specs.Starts.{begins_member};
 
 use deflate_bits::DeflateFault;
@@ -31,4 +31,14 @@ pub fn no_member_begins_another()
         → IsMember (bytes ++ more) other → (more ≡ []) × (other ≡ text) }
     ensures part { (bytes more text : List ℕ) → 0 < length more → IsMember (bytes ++ more) text
         → member_in bytes ≡ Err DeflateFault.Cut }
+{}
+
+/// A file is one list of members, up to where no more begins: its end, other bytes, or a member at
+/// fault.
+pub fn file_is_one_list_of_members()
+    ensures one { (file : List ℕ) (members others : List (List ℕ)) (rest more : List ℕ)
+        → IsOfMembers file members rest → IsOfMembers file others more
+        → (members ≡ others) × (rest ≡ more) }
+    ensures some { (file : List ℕ) → (members : List (List ℕ)) × (rest : List ℕ)
+        × IsOfMembers file members rest }
 {}
