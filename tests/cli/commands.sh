@@ -432,4 +432,22 @@ for way in full closed broken; do
     check_into $way "$way: get, long"      "" "$write"                       3 get 0 large.warc
     check_into $way "$way: get, none"      "" "$none"                        1 get 1 r.warc
 done
+
+# The second lines of messages on compressed archives.
+read_packed
+program=$packed
+gzip --no-name --keep page.html
+{ head --bytes=100 r.warc | gzip --no-name && tail --bytes=+101 r.warc | gzip --no-name; } > divided.warc.gz
+cat r.warc r.warc | gzip --no-name > whole.warc.gz
+{ cat r.warc.gz && echo; } > longer.warc.gz
+{ cat r.warc.gz && head --bytes=-1 r.warc.gz; } > cut.warc.gz
+divided="The member ends within its record. If the record goes on in the next member, pack the file again: gunzip it, then warcio recompress IN.warc OUT.warc.gz."
+whole="Each record has to be a member of gzip of its own: warcio recompress IN.warc.gz OUT.warc.gz packs the file so."
+advises "why: a page in a member"   "No record begins the member's text: its first line isn't WARC/1.0 or WARC/1.1." 1 index page.html.gz
+advises "why: a record in two members" "$divided"                                                       1 index divided.warc.gz
+advises "why: records in one member" "$whole"                                                           1 index whole.warc.gz
+advises "why: a line behind a member" "No member of gzip begins there: its first bytes aren't 1F 8B."   1 index longer.warc.gz
+advises "why: a cut member"         "The archive ends within a member of gzip."                         1 index cut.warc.gz
+advises "why: not an archive of gzip" "No record begins there: its first line isn't WARC/1.0 or WARC/1.1." 1 index forged
+advises "why: a plain archive that is cut" "The archive ends within a record's header."                 1 index torn.warc
 end_script

@@ -1,7 +1,9 @@
 //! The second line of a message on standard error: why, and what to do.
+use crate::console::Console;
 use crate::file_kind::{FileKind, file_kind, is_file, is_folder};
 use crate::outcome::Outcome;
 use capture_core::CaptureFault;
+use command_line::Program;
 use index_core::IndexFault;
 use query_core::{AnswerFault, QueryFault};
 use std::rt::Runtime;
@@ -86,19 +88,46 @@ pub fn query_advice(fault: QueryFault) -> &'static str {
 }
 
 /// Returns why an archive of this name is refused, or what it is.
-pub fn archive_advice<R: Runtime>(rt: &R, name: &str, fault: CaptureFault) -> &'static str {
+pub fn archive_advice<R: Runtime>(
+    console: &Console<R>,
+    name: &str,
+    fault: CaptureFault,
+) -> &'static str {
     match fault {
         CaptureFault::Archive(fault) => match fault.cause {
-            Cause::Version if fault.offset == 0 => no_archive_advice(file_kind(rt, name)),
-            Cause::Read if is_folder(rt, name) => {
+            Cause::Read if is_folder(console.rt, name) => {
                 "It is a folder: warcdx-update indexes the archives of a folder."
             }
+            cause if is_unpacked(console, name) => member_advice(cause),
+            Cause::Version if fault.offset == 0 => no_archive_advice(file_kind(console.rt, name)),
             cause => cause_advice(cause),
         },
         CaptureFault::KeyTooLong(_offset) => "There is no room for the key of the record's URL.",
         CaptureFault::LineTooLong(_offset) => {
             "The line of the record's capture would have more than 16777216 bytes."
         }
+    }
+}
+
+/// Returns `true` if the program unpacks the archive of this name.
+fn is_unpacked<R: Runtime>(console: &Console<R>, name: &str) -> bool {
+    match console.program {
+        Program::Warcdx => false,
+        Program::WarcdxGz => file_kind(console.rt, name) == FileKind::Gzip,
+    }
+}
+
+/// Returns what a cause of damage means for a member of gzip, or for the record in it.
+fn member_advice(cause: Cause) -> &'static str {
+    match cause {
+        Cause::Version => {
+            "No record begins the member's text: its first line isn't WARC/1.0 or WARC/1.1."
+        }
+        Cause::ShortHead | Cause::ShortBlock | Cause::Closing => {
+            "The member ends within its record. If the record goes on in the next member, pack the file again: \
+             gunzip it, then warcio recompress IN.warc OUT.warc.gz."
+        }
+        cause => cause_advice(cause),
     }
 }
 
@@ -155,9 +184,13 @@ fn cause_advice(cause: Cause) -> &'static str {
 }
 
 /// Returns why a call on the archive of this name failed, unless memory or the output did.
-pub fn index_advice<R: Runtime>(rt: &R, name: &str, fault: IndexFault) -> Option<&'static str> {
+pub fn index_advice<R: Runtime>(
+    console: &Console<R>,
+    name: &str,
+    fault: IndexFault,
+) -> Option<&'static str> {
     match fault {
-        IndexFault::Capture(fault) => Some(archive_advice(rt, name, fault)),
+        IndexFault::Capture(fault) => Some(archive_advice(console, name, fault)),
         IndexFault::BadName => Some("The name of an archive's file has 1 to 255 bytes."),
         IndexFault::DuplicateName => Some(
             "Another archive has this file name: rename one of them.",

@@ -41,7 +41,7 @@ fn say_fault<R: Runtime>(console: &Console<R>, name: &str, fault: IndexFault) {
         }
         IndexFault::Memory | IndexFault::Write => {}
     }
-    say_advice(console, index_advice(console.rt, name, fault));
+    say_advice(console, index_advice(console, name, fault));
 }
 
 /// Adds a line to a message, if there is more to say.
