@@ -26,3 +26,5 @@ pub mod PackedRowLemmas
 pub mod PackedCaptureLemmas
 pub mod PackedPlaceLemmas
 pub mod PackedFetchLemmas
+pub mod FormListLemmas
+pub mod MemberRowLemmas

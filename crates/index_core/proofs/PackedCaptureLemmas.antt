@@ -8,12 +8,13 @@ use Rattle.capture_core.proofs.Captures.{one_capture}
 use Rattle.capture_core.specs.Capture.{IsCaptureUnder, content_of}
 use Rattle.capture_core.specs.Indexed.{url_of}
 use Rattle.capture_core.specs.declared.place.Place.{Place}
+use Rattle.gzip_members.specs.Laws.{in_a_row}
 use Rattle.archives.specs.Captures.{IsCaptureFrom}
 use Rattle.archives.specs.Form.{Stored, plain}
 use Rattle.archives.specs.Packed.{packed}
 use Rattle.archives.proofs.RecordWalks.{one_list}
 use Rattle.index_core.specs.PackedLaws.{ArePacked, FitsAnywhere, MembersAreAccepted, MembersHaveCaptures}
-use Rattle.index_core.specs.PackedLaws.{at_place, from_start, in_a_row, in_member, in_members, without_place}
+use Rattle.index_core.specs.PackedLaws.{at_place, from_start, in_member, in_members, without_place}
 use Rattle.index_core.proofs.PackedRowLemmas.{members_are_records}
 
 -- where a member stands

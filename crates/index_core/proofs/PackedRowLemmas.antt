@@ -3,10 +3,9 @@ use Rattle.index_core.proofs.Words.{◌≡◌, ◌∙◌, ℕ, ◌+◌, ◌-◌,
 use Rattle.index_core.proofs.Words.{Ok, ap, arith, append-nil, append_assoc, drop, take, length, length-append}
 use Rattle.index_core.proofs.Words.{refl, subst, sym, drop-append_seam}
 use Rattle.index_core.proofs.Words.{HeadView, record_length, read-spelled}
-use Rattle.std.proofs.Common.{true}
 use Rattle.std.proofs.Math.Seq.{take-append_seam}
-use Rattle.gzip_members.specs.Laws.{IsMember}
-use Rattle.gzip_members.specs.Starts.{begins_member}
+use Rattle.gzip_members.specs.Laws.{IsMember, in_a_row}
+use Rattle.gzip_members.proofs.RowLemmas.{begins_more}
 use Rattle.gzip_members.proofs.StayLemmas.{member_followed}
 use Rattle.warc_core.specs.HeadView.{block_at}
 use Rattle.warc_core.specs.Record.{closing}
@@ -18,16 +17,10 @@ use Rattle.archives.specs.Packed.{held_by, held_in, held_with, member_holds, pac
 use Rattle.archives.proofs.PackedLemmas.{packed_ends, packed_reads}
 use Rattle.archives.proofs.PlainLemmas.{heads_of, plain_read, plain_walk}
 use Rattle.archives.proofs.RecordWalks.{walks_more}
-use Rattle.index_core.specs.PackedLaws.{ArePacked, MembersAreRecords, bytes_at, from_start, in_a_row, in_member, in_members}
+use Rattle.index_core.specs.PackedLaws.{ArePacked, MembersAreRecords, bytes_at, from_start, in_member, in_members}
 use Rattle.index_core.proofs.ArchiveWalks as archives
 
 -- ---- one record
-
--- a member begins its bytes, whatever is behind them
-begins_more : (bytes more : List ℕ) → begins_member bytes ≡ Ok true → begins_member (bytes ++ more) ≡ Ok true
-begins_more [] more e = absurd cc
-begins_more (first ∷ []) more e = absurd (grind arith)
-begins_more (first ∷ second ∷ bytes) more e = e
 
 -- the block of a record, by its text
 text_block : (limit start : ℕ) (h : HeadView) (block text rest : List ℕ) → IsReadFrom limit start h block text

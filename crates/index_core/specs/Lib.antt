@@ -12,6 +12,8 @@ pub mod Copying
 pub mod Counting
 pub mod Laws
 pub mod FetchingLaws
+pub mod RecordLaws
+pub mod MemberLaws
 pub mod PackedLaws
 pub mod PackedFetching
 pub mod OneText

@@ -1,7 +1,7 @@
 -- Laws of compressed archives whose members hold the records of a plain one.
-use Rattle.std.specs.Prelude.{◌≡◌, ℕ, ◌+◌, ◌<◌, ◌≤◌, ◌^◌, ⊤, Bool, List, [], ◌∷◌, ◌++◌, length, take, drop, map}
+use Rattle.std.specs.Prelude.{◌≡◌, ℕ, ◌+◌, ◌<◌, ◌≤◌, ◌^◌, ⊤, Bool, List, [], ◌∷◌, length, take, drop, map}
 use Rattle.std.specs.List.{AllByRecursion}
-use Rattle.gzip_members.specs.Laws.{IsMember}
+use Rattle.gzip_members.specs.Laws.{IsMember, in_a_row}
 use Rattle.warc_core.specs.HeadView.{HeadView}
 use Rattle.warc_core.specs.Kind.{Kind}
 use Rattle.cdxj_core.specs.Entries.{EntryValue, line_text}
@@ -22,11 +22,6 @@ ArePacked archive [] (member ∷ members) = ⊥
 ArePacked archive (r ∷ records) [] = ⊥
 ArePacked archive (r ∷ records) (member ∷ members) =
     IsMember member (bytes_at archive r.place) × ArePacked archive records members
-
--- members one behind another
-abbrev pub in_a_row : List (List ℕ) → List ℕ
-in_a_row [] = []
-in_a_row (member ∷ members) = member ++ in_a_row members
 
 -- a head as it begins a text of its own
 abbrev pub from_start : HeadView → HeadView

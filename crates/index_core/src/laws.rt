@@ -4,6 +4,8 @@ ghost use Rattle.index_core.specs.Laws.{AcceptedIsWhole, OneIndexed, OneIndexedT
 ghost use Rattle.index_core.specs.Laws.{OneStands, SomeStands, WholeIsNotRefused, WholeStays};
 ghost use Rattle.index_core.specs.Laws.{CapturesStay, PlainIsDamaged, PlainIsWhole};
 ghost use Rattle.index_core.specs.FetchingLaws.{LengthAgrees, OffsetAgrees, CapturesAreFetched};
+ghost use Rattle.index_core.specs.RecordLaws.{NotBoth, OneFault, OneList, RecordsOrFault};
+ghost use Rattle.index_core.specs.MemberLaws.{MembersArePacked, PackedIsMembers};
 ghost use Rattle.index_core.specs.PackedFetching.{PackedCapturesAreFetched, PackedCapturesStand};
 ghost use Rattle.index_core.specs.PackedLaws.{MembersAreAccepted, MembersAreRecords};
 ghost use Rattle.index_core.specs.PackedLaws.{MembersHaveCaptures};
@@ -67,6 +69,21 @@ pub fn accepted_archive_is_not_refused()
 pub fn accepted_archive_stays_accepted()
     ensures whole { WholeStays }
     ensures captures { CapturesStay }
+{}
+
+/// An archive of either form is one list of records up to its end, or up to its fault. It is never
+/// both, and always one.
+pub fn archive_is_one_list_of_records()
+    ensures one { OneList }
+    ensures fault { OneFault }
+    ensures either { NotBoth }
+    ensures some { RecordsOrFault }
+{}
+
+/// A compressed archive is exactly a list of members, each of which has no text or is one record.
+pub fn packed_archive_is_its_members()
+    ensures members { PackedIsMembers }
+    ensures packed { MembersArePacked }
 {}
 
 /// A compressed archive of a member of each record of a plain one consists of these records, each at
