@@ -1,7 +1,11 @@
 """Runs of each command on the samples, by themselves, with a small C library that is preloaded, or below another program.
-fail_devices.py, fail_syscalls.py and refuse_memory.py import this file."""
+
+If the program is warcdx-gz, the samples are compressed, under the same names. fail_devices.py, fail_syscalls.py and refuse_memory.py import this file.
+"""
+import gzip
 import os
 import pathlib
+import re
 import shutil
 import subprocess
 import tempfile
@@ -34,6 +38,8 @@ CASES = (
     ("frob",),
 )
 
+PACKED_NAME = re.compile(rb"^warcdx-gz: ", re.MULTILINE)
+
 
 class Ended(NamedTuple):
     """How a run ended."""
@@ -43,6 +49,21 @@ class Ended(NamedTuple):
     error: bytes
 
 
+def reads_packed(program: pathlib.Path) -> bool:
+    """Returns whether a program is warcdx-gz."""
+    return subprocess.run((program, "--version"), stdout=subprocess.PIPE, check=True).stdout.startswith(b"warcdx-gz ")
+
+
+def packed(program: pathlib.Path, archive: pathlib.Path) -> bytes:
+    """Returns an archive with a member of gzip for each of its records, and one for what is behind the last one."""
+    text = archive.read_bytes()
+    listed = subprocess.run((program, "list", archive), stdout=subprocess.PIPE).stdout
+    places = [tuple(map(int, line.split()[:2])) for line in listed.splitlines() if not line.startswith(b"fault ")]
+    records = [text[offset : offset + length] for offset, length in places]
+    rest = text[sum(map(len, records)) :]
+    return b"".join(gzip.compress(record, mtime=0) for record in (*records, rest) if record)
+
+
 class Runs:
     """Runs of the program in a folder with the samples, their indexes, and the library made of a C source of tests/faults, if one is named."""
 
@@ -50,10 +71,12 @@ class Runs:
         self.program = program
         self.temporary = tempfile.TemporaryDirectory()
         self.folder = pathlib.Path(self.temporary.name)
+        is_packed = reads_packed(program)
         for archive in (ROOT / "samples").glob("*.warc"):
-            (self.folder / archive.name).write_bytes(archive.read_bytes())
-            index = subprocess.run((program, "index", archive), stdout=subprocess.PIPE, stderr=subprocess.DEVNULL).stdout
-            (self.folder / archive.name).with_suffix(".cdxj").write_bytes(index)
+            own = self.folder / archive.name
+            own.write_bytes(packed(program, archive) if is_packed else archive.read_bytes())
+            index = subprocess.run((program, "index", own), stdout=subprocess.PIPE, stderr=subprocess.DEVNULL).stdout
+            own.with_suffix(".cdxj").write_bytes(index)
         self.library = make_library(source, self.folder) if source else None
 
     def usual(self, arguments: Sequence[str]) -> Ended:
@@ -72,7 +95,7 @@ class Runs:
         done = subprocess.run(
             command, input=LINES, stdout=subprocess.PIPE, stderr=subprocess.PIPE, cwd=self.folder, env=environment, timeout=60
         )
-        return Ended(done.returncode, done.stdout, without_advice(done.stderr))
+        return Ended(done.returncode, done.stdout, PACKED_NAME.sub(b"warcdx: ", without_advice(done.stderr)))
 
 
 def make_library(source: str, folder: pathlib.Path) -> pathlib.Path:
