@@ -56,7 +56,8 @@ def find_packed_program(program: pathlib.Path) -> pathlib.Path:
     if os.access(beside, os.X_OK):
         return beside
     link = link_to(find_program(None, BUILT_GZ))
-    os.environ["PATH"] = f"{LINKS}:{os.environ['PATH']}"
+    if str(LINKS) not in os.environ["PATH"].split(":"):
+        os.environ["PATH"] = f"{LINKS}:{os.environ['PATH']}"
     return link
 
 

@@ -1,4 +1,4 @@
-"""Queries over the indexes of web archives, and their records, by the program `warcdx`."""
+"""Queries over the indexes of web archives, and their records, by the programs `warcdx` and `warcdx-gz`."""
 from . import faults, refusals
 from .archive import Archive, CompressedArchive, Listed, Verified, open_archive
 from .collection import Collection
