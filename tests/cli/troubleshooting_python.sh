@@ -139,8 +139,6 @@ row "\`the body is longer than is allowed, or unpacks to more\`, \`the body take
 row "\`the input isn't a record\`, \`the record has no length\`, \`the head of the record is too long\`, \`the block has no HTTP head\`"
 shows "another file" "the input isn't a record" body text
 
-row "\`is one record whose head the package can't read\`, \`at no member that the package has read\`"
-
 # The tests of the gateway have its refusals, and what it says of indexes.
 for refusals in Host "BadPage BadSort BadQuery" "TooMany TooLarge" "TooSlow TooBusy" Changed; do
     # shellcheck disable=SC2016,SC2086 # several names

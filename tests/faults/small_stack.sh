@@ -7,6 +7,7 @@
 set -euo pipefail
 source "$(dirname "$0")/../program.sh"
 read_program "$@"
+read_packed
 
 readonly KIBIBYTES=256
 samples=$root/samples
@@ -46,4 +47,12 @@ runs serve 0 serve "$work/index"
 runs get 0 get 0 "$samples/wget.warc"
 runs scan 0 scan 2 "key=&matchType=prefix" "$samples/wget.warc"
 runs help 0 --help
+
+program=$packed
+gzip --stdout "$samples/response.warc" > "$work/packed"
+runs "list, compressed" 0 list "$work/packed"
+runs "verify, compressed" 0 verify "$work/packed"
+runs "index, compressed" 0 index "$work/packed"
+runs "get, compressed" 0 get 0 "$work/packed"
+runs "scan, compressed" 0 scan 2 "key=&matchType=prefix" "$work/packed" "$samples/wget.warc"
 end_script
