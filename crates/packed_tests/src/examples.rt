@@ -1,0 +1,9 @@
+//! What the definitions say of literal archives. So they are neither too strict nor too lax for
+//! these.
+ghost use Rattle.packed_tests.specs.Examples.{ArchiveIsRead};
+
+/// Two members in a row are a compressed archive of two records, and have its listing. If the second
+/// is cut or isn't a member, there is a fault, and the first stays a record.
+pub fn literal_archives_are_read()
+    ensures { ArchiveIsRead }
+{}
