@@ -36,11 +36,11 @@ response_record = record {
       stamp = codes "20160919172024";
       block_length = 59;
       fields = record { name = codes "WARC-Type"; value = codes "response" }
-        ∷ record { name = codes "WARC-Record-ID"; value = codes "<urn:x:1>" }
-        ∷ record { name = codes "WARC-Date"; value = codes "2016-09-19T17:20:24Z" }
-        ∷ record { name = codes "WARC-Target-URI"; value = codes "http://example.com/" }
-        ∷ record { name = codes "Content-Type"; value = codes "application/http; msgtype=response" }
-        ∷ record { name = codes "Content-Length"; value = codes "59" } ∷ [];
+          ∷ record { name = codes "WARC-Record-ID"; value = codes "<urn:x:1>" }
+          ∷ record { name = codes "WARC-Date"; value = codes "2016-09-19T17:20:24Z" }
+          ∷ record { name = codes "WARC-Target-URI"; value = codes "http://example.com/" }
+          ∷ record { name = codes "Content-Type"; value = codes "application/http; msgtype=response" }
+          ∷ record { name = codes "Content-Length"; value = codes "59" } ∷ [];
     };
   };
   block = codes "HTTP/1.1 200 OK\r\nContent-Type: text/html; charset=utf-8\r\n\r\n";
@@ -73,11 +73,11 @@ resource_record = record {
       stamp = codes "20160919172024";
       block_length = 3;
       fields = record { name = codes "WARC-Type"; value = codes "resource" }
-        ∷ record { name = codes "WARC-Record-ID"; value = codes "<urn:x:3>" }
-        ∷ record { name = codes "WARC-Date"; value = codes "2016-09-19T17:20:24Z" }
-        ∷ record { name = codes "WARC-Target-URI"; value = codes "http://example.com/r" }
-        ∷ record { name = codes "Content-Type"; value = codes "text/plain" }
-        ∷ record { name = codes "Content-Length"; value = codes "3" } ∷ [];
+          ∷ record { name = codes "WARC-Record-ID"; value = codes "<urn:x:3>" }
+          ∷ record { name = codes "WARC-Date"; value = codes "2016-09-19T17:20:24Z" }
+          ∷ record { name = codes "WARC-Target-URI"; value = codes "http://example.com/r" }
+          ∷ record { name = codes "Content-Type"; value = codes "text/plain" }
+          ∷ record { name = codes "Content-Length"; value = codes "3" } ∷ [];
     };
   };
   block = codes "abc";
