@@ -1,1 +1,2 @@
 pub mod ReadArchives
+pub mod ReadPages

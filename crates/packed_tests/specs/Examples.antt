@@ -2,10 +2,14 @@
 use Rattle.std.specs.Prelude.{◌≡◌, ◌++◌, ℕ, List, [], ◌∷◌, take, codes}
 use Rattle.warc_core.specs.Kind.kinds
 use Rattle.warc_core.specs.declared.fault.Cause.TheVariants as causes
+use Rattle.capture_core.specs.CaptureAnswer.{usual_limits}
+use Rattle.capture_core.specs.Types.{includes, usual_types}
+use Rattle.cdxj_core.specs.Entries.{EntryValue}
+use Rattle.index_core.specs.Accepted.{IsAccepted}
 use Rattle.index_core.specs.Form.{BreaksAfter, ConsistsOf, Stored}
 use Rattle.index_core.specs.Limits.{HEAD_LIMIT}
 use Rattle.index_core.specs.Listing.{listing_line}
-use Rattle.index_core.specs.Packing.{Packed, form_to}
+use Rattle.index_core.specs.Packing.{Packed, Packing, Plain, form_to}
 use Rattle.index_core.specs.Report.{report_lines}
 
 -- a member that zlib wrote, of a response
@@ -97,3 +101,41 @@ pub record ArchiveIsRead : Type 0 where
       (record { offset = 207; cause = causes.CutMember })
   pub other : BreaksAfter (form_to HEAD_LIMIT Packed) (response_member ++ codes "x") (response_record ∷ [])
       (record { offset = 207; cause = causes.NoMember })
+
+-- ---- a record that is indexed
+
+-- the text of a record of one byte
+abbrev pub page_text : List ℕ
+page_text = codes
+    "WARC/1.0\r\nWARC-Type: resource\r\nWARC-Target-URI: http://a.org/\r\nWARC-Payload-Digest: sha1:AB\r\nWARC-Record-ID: <a:b>\r\nWARC-Date: 2025-01-02T03:04:05Z\r\nContent-Type: text/plain\r\nContent-Length: 1\r\n\r\n"
+    ++ codes "x\r\n\r\n"
+
+-- a member that has it as it is
+abbrev pub page_member : List ℕ
+page_member =
+    31 ∷ 139 ∷ 8 ∷ 0 ∷ 0 ∷ 0 ∷ 0 ∷ 0 ∷ 2 ∷ 3 ∷ 1 ∷ 201 ∷ 0 ∷ 54 ∷ 255
+    ∷ (page_text ++ 223 ∷ 176 ∷ 232 ∷ 179 ∷ 201 ∷ 0 ∷ 0 ∷ 0 ∷ [])
+
+-- the capture, which a plain archive has at the offset 0 with the length 201
+abbrev pub page_entry : ℕ → EntryValue
+page_entry len = record {
+  key = codes "org,a)/";
+  stamp = codes "20250102030405";
+  url = codes "http://a.org/";
+  mime = codes "text/plain";
+  status = codes "-";
+  digest = codes "AB";
+  length = len;
+  offset = 0;
+  filename = codes "a.warc";
+}
+
+-- an archive of this form is accepted whole with this capture
+abbrev pub HasPage : Packing → List ℕ → EntryValue → Type 0
+HasPage packing archive e =
+    IsAccepted (includes usual_types) usual_limits (form_to HEAD_LIMIT packing) (codes "a.warc") archive (e ∷ [])
+
+-- The text and its member are accepted with the same capture, but for the length.
+pub record PageIsAccepted : Type 0 where
+  pub plain : HasPage Plain page_text (page_entry 201)
+  pub packed : HasPage Packed page_member (page_entry 224)
