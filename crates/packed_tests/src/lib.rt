@@ -6,6 +6,7 @@
 mod answers;
 #[cfg(test)]
 mod blocks;
+mod examples;
 #[cfg(test)]
 mod faults;
 #[cfg(test)]
@@ -24,3 +25,5 @@ mod openings;
 mod records;
 #[cfg(test)]
 mod verdicts;
+
+pub use crate::examples::literal_archives_are_read;

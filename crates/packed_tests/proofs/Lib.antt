@@ -1,0 +1,2 @@
+pub mod ReadArchives
+pub mod ReadPages
