@@ -95,8 +95,11 @@ kept-by : (old new : Stage) (w v : WindowView) (is_whole : Bool) (passed passed'
     → work_left new v passed' held' ≤ work_left old w passed held
 kept-by old new w v is_whole passed passed' held held' taken more given near count left inside (inl part) =
     rw (work-is old w passed held more given)
-    (omega (arith, least-of _ _ _ (work-most (is_over new) (nat_lt v.given (length v.text)) _)
-      (fewer (parts_left old) (parts_left new) passed passed' held held' near part)))
+    (omega (
+      arith,
+      least-of _ _ _ (work-most (is_over new) (nat_lt v.given (length v.text)) _)
+          (fewer (parts_left old) (parts_left new) passed passed' held held' near part),
+    ))
 kept-by old new w v is_whole passed passed' held held' taken more given near count left inside (inr (inl text)) =
     rw (work-is old w passed held more given, none-left (is_over new) v.given (length v.text) _ text) (omega arith)
 kept-by old new w v is_whole passed passed' held held' taken more given near count left inside (inr (inr (same, waits, few))) =

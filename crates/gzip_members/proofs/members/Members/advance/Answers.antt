@@ -1,4 +1,4 @@
-use Rattle.std.proofs.Common.{◌≡◌, length, sym, ◌∙◌}
+use Rattle.std.proofs.Common.{length, sym, ◌∙◌}
 use Rattle.gzip_members.proofs.LeftLemmas.{work-done}
 use Rattle.gzip_members.proofs.members.Members.advance.Goals as goal
 

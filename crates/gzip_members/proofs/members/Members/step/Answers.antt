@@ -1,4 +1,4 @@
-use Rattle.std.proofs.Common.{◌≡◌, ◌+◌, ◌≤◌, ◌-◌, ℕ, length, ap, ◌∙◌, subst, refl, arith, length-drop}
+use Rattle.std.proofs.Common.{◌≡◌, ◌≤◌, ◌-◌, ℕ, length, ap, ◌∙◌, subst, arith, length-drop}
 use Rattle.deflate_bits.specs.declared.fault.DeflateFault.TheVariants.{Bad}
 use Rattle.gzip_members.specs.Bodies.{GoesOn}
 use Rattle.gzip_members.proofs.LeftLemmas.{work-ends, work-falls, work-kept}
