@@ -10,6 +10,11 @@ pub record IsMember (bytes text : List ℕ) : Type 0 where
   pub begins : begins_member bytes ≡ Ok true
   pub reads : member_in bytes ≡ Ok (text, [])
 
+-- a member of this text begins these bytes, and these are behind it
+pub record Begins (bytes text behind : List ℕ) : Type 0 where
+  pub begins : begins_member bytes ≡ Ok true
+  pub reads : member_in bytes ≡ Ok (text, behind)
+
 -- members one behind another
 abbrev pub in_a_row : List (List ℕ) → List ℕ
 in_a_row [] = []

@@ -3,7 +3,7 @@
 ghost use Rattle.std.specs.Prelude.{◌≡◌, ◌≢◌, ◌<◌, ℕ, true, ◌++◌, List, [], length, Result, Ok, Err};
 ghost use Rattle.inflate.specs.Laws.{followed};
 ghost use Rattle.gzip_members.specs.Members.{member_in};
-ghost use Rattle.gzip_members.specs.Laws.{IsMember, IsOfMembers};
+ghost use Rattle.gzip_members.specs.Laws.{Begins, IsMember, IsOfMembers};
 ghost use Rattle.gzip_members.specs.Starts.{begins_member};
 
 use deflate_bits::DeflateFault;
@@ -24,9 +24,11 @@ pub fn members_are_read_from_their_own_bytes()
         → member_in (own ++ more) ≡ Ok (text, more) }
 {}
 
-/// No member begins another: if both begin with the same bytes, they are the same, and have the
-/// same text. A part of a member is a member that is cut.
+/// No member begins another, whatever is behind them: if both begin with the same bytes, they are
+/// the same, and have the same text. A part of a member is a member that is cut.
 pub fn no_member_begins_another()
+    ensures offset { (own more behind rest text other : List ℕ) → Begins (own ++ behind) text behind
+        → Begins ((own ++ more) ++ rest) other rest → (more ≡ []) × (other ≡ text) }
     ensures one { (bytes more text other : List ℕ) → IsMember bytes text
         → IsMember (bytes ++ more) other → (more ≡ []) × (other ≡ text) }
     ensures part { (bytes more text : List ℕ) → 0 < length more → IsMember (bytes ++ more) text

@@ -86,9 +86,10 @@ pub fn packed_archive_is_its_members()
     ensures packed { MembersArePacked }
 {}
 
-/// A compressed archive of a member of each record of a plain one consists of these records, each at
-/// its member's place. It has the captures of the plain one, but for their offsets and lengths. It
-/// is accepted whole if the plain one is, unless a line becomes too long by the digits of its place.
+/// A compressed archive of a member of each record of a plain one consists of these records, each
+/// at its member's place. It has the captures of the plain one, but for their offsets and lengths.
+/// It is accepted whole if the plain one is, unless a line becomes too long by the digits of its
+/// place.
 pub fn packed_records_keep_their_captures()
     ensures records { MembersAreRecords }
     ensures captures { MembersHaveCaptures }
