@@ -200,6 +200,16 @@ class Bad(Packed):
             with self.assertRaises(faults.BadMember), archive.stream(207) as stream:
                 list(pieces(stream))
 
+    def test_a_member_is_judged_behind_the_last_chunk(self) -> None:
+        block = b"HTTP/1.1 200 OK\r\nTransfer-Encoding: chunked\r\n\r\n3\r\nabc\r\n0\r\n\r\n"
+        front = PAGE[: PAGE.index(b"Content-Length")]
+        good = member(front + b"Content-Length: %d\r\n\r\n%b\r\n\r\n" % (len(block), block))
+        with self.archive(good).stream(0) as stream:
+            self.assertEqual([b"abc"], list(stream.payload()))
+        wrong = good[:-8] + bytes(4) + good[-4:]  # its CRC-32
+        with self.assertRaises(faults.BadMember), self.archive(wrong).stream(0) as stream:
+            list(stream.payload())
+
     def test_a_program_that_is_silent_is_ended(self) -> None:
         archive = self.archive(member(PAGE + bytes(256 << 20)))
         with self.assertRaises(ReplyTooLate), archive.stream(0, seconds=0.01):

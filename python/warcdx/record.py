@@ -157,11 +157,17 @@ class RecordStream:
 
     def payload(self, limits: Limits = UNLIMITED) -> Iterator[bytes]:
         """Yields the body without its codings, as `payload` returns it. One beyond the limits is Unreadable."""
-        return _payload(self.head, self.http_head, self._body, limits)
+        return self._to_end(_payload(self.head, self.http_head, self._body, limits))
 
     def stored_payload(self, limits: Limits = UNLIMITED) -> Iterator[bytes]:
         """Yields the body without its transfer codings only, such as chunks. Its content codings stay."""
-        return _payload(self.head, self.http_head, self._body, limits, transfer_codings)
+        return self._to_end(_payload(self.head, self.http_head, self._body, limits, transfer_codings))
+
+    def _to_end(self, body: Iterator[bytes]) -> Iterator[bytes]:
+        """Yields a body, and reads what is behind it in the block, so that its member is judged."""
+        yield from body
+        for _ in self._body.rest():
+            pass
 
 
 def fields_named(head: bytes, names: "re.Pattern[bytes]") -> Iterator[tuple[str, str]]:
