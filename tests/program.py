@@ -18,7 +18,8 @@ from typing import NoReturn, Optional
 ROOT = pathlib.Path(__file__).resolve().parents[1]
 BUILT = ROOT / "crates/warcdx/out/warcdx"
 BUILT_GZ = ROOT / "crates/warcdx_gz/out/warcdx_gz"
-PACKED = "warcdx-gz"
+PLAIN, PACKED = "warcdx", "warcdx-gz"
+BOTH = ROOT / "tests/out/both"  # a folder with copies of both
 LINKS = ROOT / "tests/out/bin"  # a folder with a link of that name
 USAGE = 2  # the exit status after a usage error
 MISSING = 77  # the exit status if a package is missing, as in GNU Automake
@@ -59,6 +60,18 @@ def find_packed_program(program: pathlib.Path) -> pathlib.Path:
     if str(LINKS) not in os.environ["PATH"].split(":"):
         os.environ["PATH"] = f"{LINKS}:{os.environ['PATH']}"
     return link
+
+
+def in_one_folder(program: pathlib.Path, packed: pathlib.Path) -> pathlib.Path:
+    """Returns the program in a folder that has warcdx-gz too: its own, or else one with copies of both."""
+    if packed.parent == program.parent:
+        return program
+    BOTH.mkdir(parents=True, exist_ok=True)
+    for source, name in ((program, PLAIN), (packed, PACKED)):
+        new = BOTH / f"{name}.{os.getpid()}"
+        shutil.copy2(source, new)
+        new.replace(BOTH / name)
+    return BOTH / PLAIN
 
 
 def link_to(built: pathlib.Path) -> pathlib.Path:
