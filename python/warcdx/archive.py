@@ -5,10 +5,9 @@ import os
 import re
 import stat
 from collections.abc import Iterator
-from dataclasses import dataclass
-from typing import IO, Optional
+from typing import IO, NamedTuple, Optional
 
-from .command import memory_file
+from .ending import memory_file
 from .errors import Fault, ProgramError, fault
 from .faults import CannotOpen, NoRecord, Read
 from .program import Path, find_packed_program, find_program, operand, running, started, write_output
@@ -25,8 +24,7 @@ _VERIFIED = re.compile(b"([0-9]+) ([a-z0-9-]+)\n")
 _FAULT = re.compile(b"fault ([0-9]+) ([A-Za-z0-9]+)\n")
 
 
-@dataclass(frozen=True)
-class Listed:
+class Listed(NamedTuple):
     """A record as `list` prints it: its offset and length in bytes, and its type in lower case.
 
     In a compressed archive, offset and length are those of the record's member.
@@ -37,8 +35,7 @@ class Listed:
     kind: str
 
 
-@dataclass(frozen=True)
-class Verified:
+class Verified(NamedTuple):
     """A record as `verify` prints it: its offset in bytes, and `same`, `differs`, `not-sha1` or `absent`."""
 
     offset: int
