@@ -191,9 +191,13 @@ class Archive:
         """Yields the records from an offset on, of which the program says where they are and what is at fault."""
         if _is_read_once(self.path):
             raise Unreadable(f"{self.path}: a pipe can be read only once, by list, verify or index; save it to a file")
-        yield self._record_by_program(start)
+        try:
+            first = [self._record_by_program(start)]
+        except NoRecord:  # other bytes than a member are there, which have another fault in a list
+            first = []
+        yield from first
         for listed in self.list():
-            if listed.offset > start:
+            if listed.offset >= start + len(first):
                 text = self._text_at(listed.offset, listed.length, MOST)
                 yield self._record_by_program(listed.offset, listed.length) if text is None else Record.read(text)
 
