@@ -1,5 +1,6 @@
 """Checks whether files are indexes in order, by `warcdx check`, for which nobody has to wait."""
 import contextlib
+import functools
 import json
 import os
 import resource
@@ -11,7 +12,9 @@ from collections.abc import Sequence
 from typing import Any, NoReturn
 
 from warcdx import Error, ProgramEnded
-from warcdx.program import end_with_parent, find_program, started
+from warcdx.program import find_program, started
+
+from .parents import end_with_parent, load_system_library
 
 NICE = 10  # of a check: the answers of workers go first
 PIECE = 1 << 16  # bytes
@@ -157,7 +160,9 @@ def _run(output: socket.socket, command: tuple[str, ...]) -> dict[str, Any]:
     """Returns how the program has ended, and what it has written. Ends with it if nobody waits."""
     with open(os.memfd_create("said"), "w+b", buffering=0) as said:
         try:
-            with started(command, said, subprocess.DEVNULL) as process:
+            load_system_library()
+            before = functools.partial(end_with_parent, os.getpid(), signal.SIGKILL)
+            with started(command, said, subprocess.DEVNULL, before=before) as process:
                 assert process.stdout is not None
                 counted = b"".join(iter(lambda: _piece(output, process.stdout), b""))
                 status = process.wait()

@@ -25,11 +25,11 @@ from gunicorn.app.base import BaseApplication
 from gunicorn.errors import HaltServer
 
 from warcdx import Error, command
-from warcdx.program import end_with_parent
 
 from .application import Gateway
 from .collection import Collection, most_state
 from .generation import Identity
+from .parents import end_with_parent
 from .refusal import NAME, say
 from .renewing import AT_A_TIME, Openings, Renewal
 from .settings import BadSettings, Settings

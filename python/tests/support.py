@@ -89,6 +89,19 @@ def processes_of(index: Index) -> list[int]:
     return [serve._process.pid for serve in list(index._idle.queue) if serve._process is not None]
 
 
+def children_of(number: int) -> list[int]:
+    """Returns the process IDs of what a process has started and hasn't waited for (Linux)."""
+    found = []
+    for path in pathlib.Path("/proc").glob("[0-9]*/stat"):
+        try:
+            parent = int(path.read_text().rpartition(") ")[2].split()[1])
+        except OSError:  # it has ended
+            continue
+        if parent == number:
+            found.append(int(path.parent.name))
+    return found
+
+
 def wait_until_caught(process: "subprocess.Popen[bytes]", number: int) -> None:
     """Waits until a process handles a signal (Linux)."""
     end = time.monotonic() + WAIT

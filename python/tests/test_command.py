@@ -15,7 +15,9 @@ from .support import WAIT, Case
 INSTRUCTION = 2  # bytes
 BEGINS = """
 import contextlib, os, signal, sys, time
-from warcdx.command import deferred, run, temporary_folder
+from warcdx.command import run
+from warcdx.ending import deferred
+from warcdx.temporary import temporary_folder
 
 def work(output):
 """

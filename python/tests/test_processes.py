@@ -1,4 +1,5 @@
 """Programs that end, threads, and clients that take their time."""
+import gzip
 import os
 import pathlib
 import signal
@@ -12,7 +13,7 @@ from typing import Any
 
 from warcdx import Index, ProgramEnded, ProgramMissing, ProgramTooOld, ReplyTooLate
 
-from .support import ALL, PROGRAM, WAIT, Case, lines, processes_of
+from .support import ALL, PROGRAM, SAMPLES, WAIT, Case, children_of, lines, processes_of, resource
 
 ROOT = pathlib.Path(__file__).resolve().parents[1]
 
@@ -93,18 +94,59 @@ class Programs(Case):
         self.assertEqual(list(range(3000)), found)
 
     def test_a_program_ends_with_the_process_that_started_it(self) -> None:
-        """Also while it writes no reply."""
-        text = f'[ "$1" = serve ] || exec "{PROGRAM}" "$@"\necho $$ > "$0.pid"\nexec sleep {WAIT}'
-        program = self.script(text)
-        code = f"import warcdx; warcdx.Index({str(self.put(lines(3)))!r}, program={program!r}).count({ALL!r})"
-        asking = subprocess.Popen((sys.executable, "-c", code), cwd=ROOT)
-        self.addCleanup(asking.wait)
-        self.addCleanup(asking.kill)
-        path = self.folder / "program.pid"
-        self.wait_for(lambda: path.exists() and path.read_text().endswith("\n"))
-        asking.kill()
-        number = int(path.read_text())
-        self.wait_for(lambda: not is_running(number))
+        """One that is idle, one in a long reply, and two that list an archive and wait until more is read."""
+        index = self.put(lines(20_000))
+        plain, packed = self.folder / "a.warc", self.folder / "a.warc.gz"
+        plain.write_bytes(resource(1) * 20_000)
+        packed.write_bytes(gzip.compress(resource(1)) * 20_000)
+        opened = f"index = warcdx.Index({str(index)!r}, program={PROGRAM!r})\n"
+        for text in (
+            f"{opened}index.count({ALL!r})",
+            f"{opened}reply = index.stream({ALL!r}); next(reply)",
+            f"listed = warcdx.open_archive({str(plain)!r}, program={PROGRAM!r}).list(); next(listed)",
+            f"listed = warcdx.open_archive({str(packed)!r}, program={PROGRAM!r}).list(); next(listed)",
+        ):
+            code = f"import sys, warcdx\n{text}\nprint(flush=True)\nsys.stdin.read()"
+            command = (sys.executable, "-c", code)
+            with subprocess.Popen(command, cwd=ROOT, stdin=subprocess.PIPE, stdout=subprocess.PIPE) as asking:
+                assert asking.stdout is not None
+                self.assertEqual(b"\n", asking.stdout.readline(), text)
+                (program,) = children_of(asking.pid)
+                self.assertTrue(is_running(program), text)
+                asking.kill()
+            self.wait_for(lambda: not is_running(program))
+
+    def test_an_index_that_is_not_closed_leaves_nothing(self) -> None:
+        path = self.put(lines(3000))
+        before = len(os.listdir("/proc/self/fd")), children_of(os.getpid())
+        for _ in range(20):
+            index = Index(path, program=PROGRAM)
+            next(index.captures(ALL))
+            del index
+        self.assertEqual(before, (len(os.listdir("/proc/self/fd")), children_of(os.getpid())))
+
+    def test_a_program_outlives_a_forked_process_that_drops_the_index(self) -> None:
+        index = Index(self.put(lines(3)), program=PROGRAM)
+        self.addCleanup(index.close)
+        self.assertEqual(3, index.count(ALL))
+        (program,) = processes_of(index)
+        forked = os.fork()
+        if not forked:
+            index._idle.get()
+            os._exit(0)
+        self.assertEqual(0, os.waitpid(forked, 0)[1])
+        self.assertEqual(3, index.count(ALL))
+        self.assertEqual([program], processes_of(index))
+
+    def test_a_query_needs_no_temporary_file_and_no_module_of_a_command(self) -> None:
+        code = (
+            f"import sys, warcdx\nindex = warcdx.Index({str(self.put(lines(3)))!r}, program={PROGRAM!r})\n"
+            f"assert index.count({ALL!r}) == 3\n"
+            f"list(warcdx.open_archive({str(SAMPLES / 'wget.warc')!r}, program={PROGRAM!r}))\n"
+            "print(*sorted({'argparse', 'ctypes', 'pathlib', 'tempfile', 'warcdx.command'} & set(sys.modules)))"
+        )
+        done = subprocess.run((sys.executable, "-c", code), cwd=ROOT, stdout=subprocess.PIPE, check=True)
+        self.assertEqual(b"\n", done.stdout)
 
     def test_a_late_reply_ends_its_program(self) -> None:
         text = f'[ "$1" = serve ] || exec "{PROGRAM}" "$@"\nread query\necho "["\nexec sleep {WAIT}'

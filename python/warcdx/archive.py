@@ -1,30 +1,30 @@
 """The records of an archive, by `list`, `verify`, `index` and `get` of the program."""
 import contextlib
+import io
 import os
 import re
 import stat
 from collections.abc import Iterator
-from dataclasses import dataclass
-from typing import IO, Optional
+from typing import IO, NamedTuple, Optional
 
-from .command import memory_file
+from .ending import memory_file
 from .errors import Fault, ProgramError, fault
 from .faults import CannotOpen, NoRecord, Read
 from .program import Path, find_packed_program, find_program, operand, running, started, write_output
-from .record import Record, RecordStream, Unreadable
+from .record import CLOSING, Record, RecordStream, Unreadable
+from .usual_records import MAGIC, MOST, ArchiveFile, usual_record
 
 FAULTY = 1  # the exit status after a fault that is on the output, and after a digest that differs
-MAGIC = b"\x1f\x8b"  # what a compressed archive begins with, and each of its members
 _INPUT = "-"
 _MOST = (1 << 63) - 1  # bytes before the end of a record
+_MOST_STREAMED = 1 << 22  # bytes of a record that `stream` holds in memory
 _VERDICT = re.compile(b"0 ([a-z0-9-]+)\n")
 _LISTED = re.compile(b"([0-9]+) ([0-9]+) ([a-z]+)\n")
 _VERIFIED = re.compile(b"([0-9]+) ([a-z0-9-]+)\n")
 _FAULT = re.compile(b"fault ([0-9]+) ([A-Za-z0-9]+)\n")
 
 
-@dataclass(frozen=True)
-class Listed:
+class Listed(NamedTuple):
     """A record as `list` prints it: its offset and length in bytes, and its type in lower case.
 
     In a compressed archive, offset and length are those of the record's member.
@@ -35,8 +35,7 @@ class Listed:
     kind: str
 
 
-@dataclass(frozen=True)
-class Verified:
+class Verified(NamedTuple):
     """A record as `verify` prints it: its offset in bytes, and `same`, `differs`, `not-sha1` or `absent`."""
 
     offset: int
@@ -81,7 +80,27 @@ class Archive:
                 found.file = self.path if found.file == _INPUT else found.file
                 raise
 
-    def get(self, offset: int, *, length: Optional[int] = None) -> Record:
+    def __iter__(self) -> Iterator[Record]:
+        """Yields each record, held in memory. `streams` yields them to be read in pieces.
+
+        Records of the usual form are read by this process, and others are asked of the program.
+        """
+        file = None
+        try:
+            with ArchiveFile(self.path) as file:
+                yield from file.packed_records() if self._is_packed(file) else file.plain_records()
+        except (OSError, ValueError):
+            pass  # the program says why the file can't be read
+        if file is None or file.end < file.size:
+            yield from self._further_records(0 if file is None else file.end)
+
+    def streams(self) -> Iterator[RecordStream]:
+        """Yields each record to be read in pieces, before the next one is taken, so that long ones take little memory."""
+        for listed in self.list():
+            with self.stream(listed.offset, length=listed.length) as stream:
+                yield stream
+
+    def record(self, offset: int, *, length: Optional[int] = None) -> Record:
         """Returns the record that begins at an offset, in bytes from the start of the archive.
 
         A plain archive is read from its start to the end of the record, and a compressed one from the offset on. If
@@ -89,9 +108,11 @@ class Archive:
         Raises `faults.NoRecord` if no record, or one of another length, begins at the offset, or else the archive's
         fault. The record is held in memory.
         """
-        with self.stream(offset, length=length) as stream:
-            record = b"".join(stream.whole())
-        return Record.read(record)
+        text = self._text_at(offset, length, MOST)
+        found = None if text is None else usual_record(text)
+        return self._record_by_program(offset, length) if found is None else found
+
+    get = record
 
     def copy(self, offset: int, output: IO[bytes], *, length: Optional[int] = None) -> None:
         """Writes the record that begins at an offset. Raises as `get` does, after a part of it may be written."""
@@ -107,6 +128,10 @@ class Archive:
         A member is unpacked to its end, however much follows the record. If the program is silent for more than
         `seconds`, it is ended, and ReplyTooLate is raised.
         """
+        text = self._text_at(offset, length, _MOST_STREAMED)
+        if text is not None and usual_record(text) is not None:
+            yield RecordStream(*_parted(text))
+            return
         with running(*self._get(offset, length), seconds=seconds) as output:
             record = RecordStream.read(output)
             if record is not None:
@@ -141,6 +166,41 @@ class Archive:
         only = () if length is None else ("--length", str(length))
         return self._program, "get", *only, str(offset), self.path
 
+    def _text_at(self, offset: int, length: Optional[int], most: int) -> Optional[bytes]:
+        """Returns the text of the record at an offset, of at most so many bytes, if no program is needed to find it.
+
+        Whether it is a record isn't looked at.
+        """
+        try:
+            with ArchiveFile(self.path) as file:
+                if self._is_packed(file):
+                    return file.member_text(offset, length, most)
+                return None if length is None else file.plain_text(offset, length, most)
+        except (OSError, ValueError):
+            return None  # the program says why the file can't be read
+
+    def _is_packed(self, file: ArchiveFile) -> bool:
+        return False
+
+    def _record_by_program(self, offset: int, length: Optional[int] = None) -> Record:
+        with running(*self._get(offset, length)) as output:
+            text = output.read()
+        return Record.read(text)
+
+    def _further_records(self, start: int) -> Iterator[Record]:
+        """Yields the records from an offset on, of which the program says where they are and what is at fault."""
+        if _is_read_once(self.path):
+            raise Unreadable(f"{self.path}: a pipe can be read only once, by list, verify or index; save it to a file")
+        try:
+            first = [self._record_by_program(start)]
+        except NoRecord:  # other bytes than a member are there, which have another fault in a list
+            first = []
+        yield from first
+        for listed in self.list():
+            if listed.offset >= start + len(first):
+                text = self._text_at(listed.offset, listed.length, MOST)
+                yield self._record_by_program(listed.offset, listed.length) if text is None else Record.read(text)
+
     def _opened(self) -> IO[bytes]:
         try:
             return open(self.path, "rb", buffering=0)
@@ -174,29 +234,48 @@ class CompressedArchive(Archive):
     def __init__(self, path: Path, *, program: str = "warcdx") -> None:
         super().__init__(path, program=find_packed_program(program))
 
+    def _is_packed(self, file: ArchiveFile) -> bool:
+        return file.is_packed()
+
 
 def open_archive(path: Path, *, program: str = "warcdx") -> Archive:
     """Returns an archive, which is compressed if its first bytes are those of gzip. Raises CannotOpen or Read.
 
     What can be read only once, such as a pipe, isn't looked at. `warcdx-gz` reads it, in either form.
     """
-    first = _first_bytes(operand(path))
+    name = operand(path)
+    try:
+        first = None if _is_read_once(name) else _first_bytes(name)
+    except ValueError as error:
+        raise CannotOpen("CannotOpen", name) from error
     if first is None or first and MAGIC.startswith(first):
         return CompressedArchive(path, program=program)
     return Archive(path, program=program)
 
 
-def _first_bytes(path: str) -> Optional[bytes]:
-    """Returns the first bytes of a file, or None of a pipe or another device."""
+def _is_read_once(path: str) -> bool:
+    """Returns whether a path names a pipe or another device, of which what was read is gone."""
     try:
         mode = os.stat(path).st_mode
-        if stat.S_ISFIFO(mode) or stat.S_ISCHR(mode):
-            return None
+    except OSError:
+        return False
+    return stat.S_ISFIFO(mode) or stat.S_ISCHR(mode)
+
+
+def _first_bytes(path: str) -> bytes:
+    """Returns the first bytes of a file. Raises CannotOpen or Read."""
+    try:
         file = open(path, "rb", buffering=0)
-    except (OSError, ValueError) as error:
+    except OSError as error:
         raise CannotOpen("CannotOpen", path) from error
     with file:
         try:
             return file.read(len(MAGIC))
         except OSError as error:
             raise Read("Read", path) from error
+
+
+def _parted(text: bytes) -> tuple[bytes, IO[bytes]]:
+    """Returns the head of a record without the empty line, and what follows it to be read."""
+    head, _, rest = text.partition(CLOSING)
+    return head, io.BytesIO(rest)

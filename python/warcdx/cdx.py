@@ -5,10 +5,10 @@ from collections.abc import Iterable, Iterator, Sequence
 from typing import IO, NamedTuple, Optional
 
 from .codings import Unreadable
-from .command import temporary_file
 from .merging import MOST, merge
 from .program import Path, find_program, operand, running
 from .streams import whole
+from .temporary import temporary_file
 from .url_keys import MOST_URL, Keyed, keys_of
 
 HEADER = b" CDX N b a m s k r M S V g\n"

@@ -23,10 +23,11 @@ from typing import IO, Optional
 
 from . import __version__
 from .cdx import BadRow, CannotRead, cdxj_lines, write_cdx
-from .command import FAILED, Parser, printable, report, run, temporary_folder
+from .command import FAILED, Parser, printable, report, run
 from .errors import Error, Fault
 from .faults import CannotFlush, CannotOpen, Input, Memory, Read, Write
 from .program import find_program
+from .temporary import temporary_folder
 
 NAME = "warcdx-cdx"
 FAULTY = 1

@@ -8,11 +8,12 @@ from typing import Optional, Union
 from .archive import Archive, open_archive
 from .errors import NoArchive
 from .index import Index
-from .program import Path
+from .program import Path, find_program
 from .query import Capture
 from .record import Record, RecordStream
 
 Archives = Union[Path, Mapping[str, Path]]
+_MOST_KNOWN = 4096  # archives of which the path and the form are kept
 
 
 class Collection:
@@ -40,7 +41,8 @@ class Collection:
     ) -> None:
         self.index = Index(indexes, program=program, processes=processes)
         self._archives = archives
-        self._program = program
+        self._program = find_program(program)
+        self._known: dict[str, Archive] = {}
 
     def record(self, capture: Capture) -> Record:
         """Returns the record of a capture, which is held in memory.
@@ -56,8 +58,17 @@ class Collection:
         return self.archive(capture.filename).stream(capture.offset, length=capture.length)
 
     def archive(self, name: str) -> Archive:
-        """Returns the archive of a file name in an index. Raises NoArchive, or `faults.CannotOpen`."""
-        return open_archive(self.path(name), program=self._program)
+        """Returns the archive of a file name in an index. Raises NoArchive, or `faults.CannotOpen`.
+
+        Its form, plain or compressed, is found out once. Open a new Collection if archives are replaced.
+        """
+        found = self._known.get(name)
+        if found is None:
+            found = open_archive(self.path(name), program=self._program)
+            if len(self._known) >= _MOST_KNOWN:
+                self._known.clear()
+            self._known[name] = found
+        return found
 
     def path(self, name: str) -> Path:
         """Returns the path of the archive of a file name in an index. There may be no such file. Raises NoArchive."""

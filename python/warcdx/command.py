@@ -1,40 +1,33 @@
 """What the commands of this package share: their arguments, output and messages, and how a signal ends them."""
 import argparse
 import contextlib
-import errno
 import io
 import json
 import os
 import pathlib
 import signal
 import sys
-import tempfile
 import threading
-from collections.abc import Callable, Iterator, Sequence
-from types import FrameType, TracebackType
-from typing import IO, BinaryIO, NoReturn, Optional
+from collections.abc import Callable, Sequence
+from types import FrameType
+from typing import BinaryIO, NoReturn, Optional
 
+from .ending import Ended as Ended
+from .ending import ending, reserve
 from .streams import OutputError as OutputError
 from .streams import open_closed_streams, replace_standard_streams, write_error
 
 USAGE = 2  # the exit status after a usage error
 FAILED = 3  # the exit status if a file, memory, the output or a program failed
 NO_THREAD = "can't start new thread"  # the message of a RuntimeError if there is no memory for a thread
-_RESERVE = 1 << 21  # bytes
 _AGAIN = 0.001  # seconds
 _TICK = 1.0  # seconds
 
 
-class Ended(BaseException):
-    """A signal ends the command. No command handles it, but each one cleans up as it passes."""
-
-
 class _Signals:
-    """The signals that end a command. The first one raises Ended, where that is allowed. Later ones do nothing."""
+    """The signals that end a command."""
 
     def __init__(self) -> None:
-        self.number: Optional[int] = None
-        self._deferrals = 1
         self._is_lost = False  # whether Ended was raised where Python ignores it
 
     def catch(self) -> None:
@@ -49,40 +42,15 @@ class _Signals:
         signal.setitimer(signal.ITIMER_REAL, _TICK, _TICK)
         sys.unraisablehook = self._handle_unraisable
 
-    @contextlib.contextmanager
-    def raising(self) -> Iterator[None]:
-        """Allows Ended to be raised in a block."""
-        self._deferrals -= 1
-        try:
-            if self.number is not None:
-                self._raise()
-            yield
-        finally:
-            self._deferrals += 1
-
-    @contextlib.contextmanager
-    def deferred(self) -> Iterator[None]:
-        """Raises Ended only after a block."""
-        was_ended = self.number is not None
-        self._deferrals += 1
-        try:
-            yield
-        finally:
-            self._deferrals -= 1
-        if not was_ended and self.number is not None:
-            self._raise()
-
     def end(self) -> None:
         """Ends the process by the signal that was handled, if any was."""
         signal.setitimer(signal.ITIMER_REAL, 0)
-        if self.number is not None:
-            signal.signal(self.number, signal.SIG_DFL)
-            os.kill(os.getpid(), self.number)
+        if ending.number is not None:
+            signal.signal(ending.number, signal.SIG_DFL)
+            os.kill(os.getpid(), ending.number)
 
     def _handle(self, number: int, frame: Optional[FrameType]) -> None:
-        if self.number is None:
-            self.number = number
-            self._raise()
+        ending.begin(number)
 
     def _handle_unraisable(self, arguments: "sys.UnraisableHookArgs") -> None:
         """Handles an exception in a finalizer, which ends there. Ended is raised again, a little later."""
@@ -93,106 +61,14 @@ class _Signals:
             sys.__unraisablehook__(arguments)
 
     def _handle_alarm(self, number: int, frame: Optional[FrameType]) -> None:
-        if self._is_lost and self._deferrals:
+        if self._is_lost and ending.is_deferred:
             signal.setitimer(signal.ITIMER_REAL, _AGAIN, _TICK)
         elif self._is_lost:
             self._is_lost = False
-            self._raise()
-
-    def _raise(self) -> None:
-        if not self._deferrals:
-            raise Ended
+            ending.raise_ended()
 
 
 _signals = _Signals()
-
-
-class _Reserve:
-    """Memory that is kept for what a command does at its end. A block that ends for lack of memory frees it.
-
-    Without it Python can't remove and end what the command has made. It even repeats a step for ever that handles
-    an exception more than 256 instructions from the start of a function, for which it has to make a number.
-    """
-
-    def __init__(self) -> None:
-        self._kept: list[bytes] = []
-
-    def fill(self) -> None:
-        if not self._kept:
-            self._kept.append(bytes(_RESERVE))
-
-    def __enter__(self) -> None:
-        pass
-
-    def __exit__(
-        self, kind: Optional[type[BaseException]], error: Optional[BaseException], trace: Optional[TracebackType]
-    ) -> None:
-        if isinstance(error, (MemoryError, SystemError)) or isinstance(error, OSError) and error.errno == errno.ENOMEM:
-            self._kept.clear()
-
-
-reserve = _Reserve()
-
-
-def deferred() -> contextlib.AbstractContextManager[None]:
-    """Lets a signal end the command only after a block, such as one that makes what has to be removed later."""
-    return _signals.deferred()
-
-
-@contextlib.contextmanager
-def temporary_file() -> Iterator[IO[bytes]]:
-    """Makes a file without a name, which is gone when the block ends, also if a signal ends the command."""
-    with contextlib.ExitStack() as stack, reserve:
-        with deferred():
-            file = stack.enter_context(tempfile.TemporaryFile())
-        yield file
-
-
-@contextlib.contextmanager
-def memory_file() -> Iterator[IO[bytes]]:
-    """Makes a file in memory, for what a program says (Linux). A disk that is full would not take why it failed."""
-    with contextlib.ExitStack() as stack, reserve:
-        with deferred():
-            file = stack.enter_context(open_memory_file())
-        yield file
-
-
-def open_memory_file() -> IO[bytes]:
-    return open(os.memfd_create("warcdx"), "w+b")
-
-
-class _Folder:
-    """A folder for files, and a file that is kept open, as reading the folder to remove it takes one."""
-
-    def __init__(self) -> None:
-        self.path = ""
-        self._spare: Optional[int] = None
-
-    def make(self) -> None:
-        self._spare = os.open(os.devnull, os.O_RDONLY | os.O_CLOEXEC)
-        self.path = tempfile.mkdtemp(prefix="warcdx-")
-
-    def remove(self) -> None:
-        if self._spare is not None:
-            os.close(self._spare)
-        if self.path:
-            for name in os.listdir(self.path):
-                os.remove(os.path.join(self.path, name))
-            os.rmdir(self.path)
-
-
-@contextlib.contextmanager
-def temporary_folder() -> Iterator[pathlib.Path]:
-    """Makes a folder for files, and removes it and them, also if a signal ends the command, or it has no more files."""
-    folder = _Folder()
-    try:
-        with reserve:
-            with deferred():
-                folder.make()
-            yield pathlib.Path(folder.path)
-    finally:
-        with deferred():
-            folder.remove()
 
 
 class Parser(argparse.ArgumentParser):
@@ -279,7 +155,7 @@ def _run_on_standard_streams(name: str, work: Callable[[BinaryIO], int]) -> tupl
 
 
 def _work_and_flush(work: Callable[[BinaryIO], int], output: io.BufferedWriter) -> int:
-    with _signals.raising():
+    with ending.raising():
         try:
             status = work(output)
         except SystemExit as end:

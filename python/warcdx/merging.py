@@ -3,8 +3,8 @@ import pathlib
 from collections.abc import Sequence
 from typing import IO
 
-from .command import temporary_folder
 from .program import Path, find_program, operand, write_output
+from .temporary import temporary_folder
 
 MOST = 1000  # indexes that are merged at a time: the program takes 1,024, and many systems as many open files
 

@@ -1,13 +1,12 @@
 """Finds the program, and runs it."""
 import contextlib
-import ctypes
+import errno
 import functools
 import io
 import os
 import re
 import select
 import shutil
-import signal
 import subprocess
 import sys
 import threading
@@ -15,7 +14,7 @@ import time
 from collections.abc import Callable, Iterator
 from typing import IO, Any, Optional, Union
 
-from .command import deferred, memory_file, reserve
+from .ending import deferred, memory_file, reserve
 from .errors import NO_STATUS, Error, Fault, ProgramMissing, ProgramTooOld, ReplyTooLate, error_of
 from .streams import whole
 
@@ -23,7 +22,6 @@ Path = Union[str, os.PathLike[str]]
 
 PACKED = "warcdx-gz"  # the program that reads compressed archives too
 LEAST_VERSION = (0, 1, 0)
-_PARENT_DEATH_SIGNAL = 1  # PR_SET_PDEATHSIG of prctl(2)
 _ROOM = 1 << 16  # bytes, more than the block of a file that the program has begun
 _PIECE = 1 << 20  # bytes of an output
 _PAUSE = 0.01  # seconds between two looks at a program that may end
@@ -135,37 +133,21 @@ def start(
     said: IO[bytes],
     stdin: Optional[int],
     stdout: Union[int, IO[bytes]] = subprocess.PIPE,
+    before: Optional[Callable[[], None]] = None,
 ) -> Process:
     """Starts the program, whose standard error goes to the file `said`.
 
-    A program that the main thread has started ends with this process, also if that is killed.
+    When this process ends, however it does, the program finds its input at the end or its output closed, and ends
+    too. `before` is called in the new process. It makes a start slow if this process has much memory.
     """
     try:
-        return Process(command, stdin=stdin, stdout=stdout, stderr=said, preexec_fn=_ending_with_starter())
+        return Process(command, stdin=stdin, stdout=stdout, stderr=said, preexec_fn=before)
     except OSError as error:
+        if error.errno == errno.ENOMEM:
+            raise MemoryError from error
         raise ProgramMissing(f"{command[0]}: {error.strerror}") from error
     except subprocess.SubprocessError as error:  # the new process had no memory to do what it does first
         raise MemoryError from error
-
-
-def _ending_with_starter() -> Optional[Callable[[], None]]:
-    """Returns what a new process does to end with the thread that has started it, if that is the main one."""
-    if threading.current_thread() is not threading.main_thread():
-        return None  # the thread may end before the process
-    _system_library()  # a new process loads nothing
-    return functools.partial(end_with_parent, os.getpid(), signal.SIGKILL)
-
-
-def end_with_parent(parent: int, number: int) -> None:
-    """Lets the system send a signal to this process when the process ends that has started it (Linux)."""
-    _system_library().prctl(_PARENT_DEATH_SIGNAL, number, 0, 0, 0)
-    if os.getppid() != parent:
-        os.kill(os.getpid(), number)
-
-
-@functools.lru_cache(maxsize=None)
-def _system_library() -> ctypes.CDLL:
-    return ctypes.CDLL(None)
 
 
 @contextlib.contextmanager
@@ -174,13 +156,14 @@ def started(
     said: IO[bytes],
     stdin: Optional[int],
     stdout: Union[int, IO[bytes]] = subprocess.PIPE,
+    before: Optional[Callable[[], None]] = None,
 ) -> Iterator[Process]:
     """Starts the program as `start` does, and ends it at the end of the block, also if a signal ends the command."""
     process = None
     try:
         with reserve:
             with deferred():
-                process = start(command, said, stdin, stdout)
+                process = start(command, said, stdin, stdout, before)
             yield process
     finally:
         if process is not None:

@@ -4,11 +4,12 @@ import os
 import select
 import subprocess
 import time
-from collections.abc import Generator, Iterator
+import weakref
+from collections.abc import Callable, Generator, Iterator
 from typing import IO, Optional
 
-from .command import open_memory_file
-from .errors import Error, ProgramEnded, ProgramError, ReplyTooLate, ReplyTooLong
+from .ending import open_memory_file
+from .errors import NO_STATUS, Error, ProgramEnded, ProgramError, ReplyTooLate, ReplyTooLong
 from .program import Process, end_of, start
 from .reply import END, MARK, NOTHING, PIECE, is_whole, refusal_of, rows_of, text_of
 
@@ -28,6 +29,7 @@ class Serve:
         self._indexes = indexes
         self._process: Optional[Process] = None
         self._said: Optional[IO[bytes]] = None
+        self._detach: Callable[[], object] = lambda: None  # keeps the program from being ended as an unused one
 
     def rows(self, query: bytes, seconds: Optional[float] = None, most: Optional[int] = None) -> list[list[str]]:
         """Returns the rows of a page, from a query for `output=json`. The first one has the names."""
@@ -180,15 +182,31 @@ class Serve:
             said.close()
             raise
         self._said = said
+        self._detach = weakref.finalize(self, _end_unused, self._process, said, os.getpid()).detach
         return self._process
 
     def _forget(self, process: Process) -> Process:
-        for pipe in (process.stdin, process.stdout, self._said):
-            if pipe is not None:
-                with contextlib.suppress(BrokenPipeError):
-                    pipe.close()
+        self._detach()
+        _close_pipes(process, self._said)
         self._process = self._said = None
         return process
+
+
+def _end_unused(process: Process, said: IO[bytes], starter: int) -> None:
+    """Ends the program of a Serve that nobody has ended, and that is gone. A forked process leaves it to its starter."""
+    _close_pipes(process, said)
+    if os.getpid() == starter:
+        process.kill()
+        process.wait()
+    else:
+        process.returncode = NO_STATUS
+
+
+def _close_pipes(process: Process, said: Optional[IO[bytes]]) -> None:
+    for pipe in (process.stdin, process.stdout, said):
+        if pipe is not None:
+            with contextlib.suppress(BrokenPipeError):
+                pipe.close()
 
 
 def _limit(seconds: Optional[float]) -> Optional[float]:

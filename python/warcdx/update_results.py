@@ -11,7 +11,7 @@ import stat
 from collections.abc import Iterable, Iterator
 from typing import IO, Any, NamedTuple, Optional
 
-from .command import deferred
+from .ending import deferred
 from .update_counts import Made
 from .update_files import CannotUpdate, Fingerprint, is_in, is_regular, move, read, remove, write_new, write_to_disk
 from .update_folder import Archive, Found

@@ -6,8 +6,9 @@ from collections.abc import Iterable, Iterator, Sequence
 from typing import IO, NamedTuple, Optional
 
 from .codings import Unreadable
-from .command import memory_file, temporary_file
+from .ending import memory_file
 from .program import close, fault_of, started
+from .temporary import temporary_file
 
 MOST_URL = 1 << 20  # bytes: the program refuses the head of a record that is longer
 _HEAD = (

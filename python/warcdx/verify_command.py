@@ -33,10 +33,11 @@ from typing import BinaryIO, Optional
 
 from . import __version__
 from .archive import Archive, open_archive
-from .command import FAILED, Parser, printable, report, run, temporary_folder
+from .command import FAILED, Parser, printable, report, run
 from .errors import Error, Fault
 from .faults import CannotFlush, CannotOpen, Input, Memory, Read, Write
 from .record_digests import Verdict
+from .temporary import temporary_folder
 from .verifying import check_archive
 from .workers import failure, run_in_order
 

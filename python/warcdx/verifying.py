@@ -4,11 +4,12 @@ import zlib
 from collections.abc import Generator, Iterator
 from typing import IO, NamedTuple
 
-from .archive import MAGIC, Archive, Listed
+from .archive import Archive, Listed
 from .codings import Unreadable, inflated
 from .errors import fault
 from .faults import CannotOpen, CutMember, Read, ShortBlock, ShortHead
 from .record_digests import RecordCheck, Verdict, Verdicts
+from .usual_records import MAGIC
 
 _PIECE = 1 << 16  # bytes that are read at once
 _GZIP = 16 + zlib.MAX_WBITS

@@ -7,9 +7,11 @@ import signal
 from collections.abc import Callable, Sequence
 from typing import IO, BinaryIO, NoReturn
 
-from .command import FAILED, deferred, printable, report, reserve, run, temporary_folder
+from .command import FAILED, printable, report, run
+from .ending import deferred, reserve
 from .errors import Error
 from .streams import write_error
+from .temporary import temporary_folder
 
 Work = Callable[[BinaryIO], int]
 BROKEN = 64  # is added to the exit status of a process whose work has failed by an exception

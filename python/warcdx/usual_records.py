@@ -1,0 +1,198 @@
+"""Records of the usual form, which this process reads by itself. Of any other one the program has to decide.
+
+Whether a record is in order is decided by the program alone, by the rules of docs/RECORDS.md and docs/COMPRESSED.md.
+The test here is narrower: a record that passes it is one that the program accepts too, with the same bytes, and almost
+all records of crawls pass it. Nothing here raises a fault. `None` says that the program is to be asked.
+"""
+import datetime
+import functools
+import os
+import re
+import stat
+import zlib
+from collections.abc import Iterator
+from types import TracebackType
+from typing import NamedTuple, Optional
+
+from .record import CLOSING, Fields, Record
+
+MAGIC = b"\x1f\x8b"  # what a compressed archive begins with, and each of its members
+MOST = 1 << 26  # bytes of a record that is read here
+_MOST_HEAD = 1 << 16  # bytes of a usual head; the program takes longer ones
+_AHEAD = 1 << 16  # bytes of an archive that are read at once
+_PACKED = 1 << 13  # bytes that are unpacked from at once: what follows a member is copied
+_GZIP = 16 + zlib.MAX_WBITS
+_LINE_END = len(b"\r\n")
+_HEAD = re.compile(rb"WARC/1\.[01]\r\n(?:[!#$%&'*+.0-9A-Z^_`a-z|~-]+:[^\r\n\0]*\r\n)+")
+_DATE = re.compile(rb"([1-9][0-9]{3}-[0-9]{2}-[0-9]{2})T(?:[01][0-9]|2[0-3]):[0-5][0-9]:[0-5][0-9](?:\.[0-9]{1,9})?Z")
+_LENGTH = re.compile(rb"[0-9]{1,18}")
+# How the lines of the mandatory fields begin in lower case, behind the line break before them.
+_TYPE, _RECORD_ID, _DATE_FIELD, _LENGTH_FIELD = b"\nwarc-type:", b"\nwarc-record-id:", b"\nwarc-date:", b"\ncontent-length:"
+
+
+class _Head(NamedTuple):
+    """A head of the usual form: its fields, its bytes with the empty line at its end, and the bytes of its block."""
+
+    fields: Fields
+    size: int
+    block: int
+
+
+def usual_head(text: bytes, start: int = 0) -> Optional[_Head]:
+    """Returns the head that begins at an index of a text, or None if none of the usual form does."""
+    end = text.find(CLOSING, start, start + _MOST_HEAD)
+    if end < 0:
+        return None
+    head = text[start : end + _LINE_END]
+    if not _HEAD.fullmatch(head):
+        return None
+    lower = head.lower()
+    if not lower.count(_TYPE) == lower.count(_RECORD_ID) == lower.count(_DATE_FIELD) == lower.count(_LENGTH_FIELD) == 1:
+        return None
+    date = _DATE.fullmatch(_value(head, lower.index(_DATE_FIELD) + len(_DATE_FIELD)))
+    length = _value(head, lower.index(_LENGTH_FIELD) + len(_LENGTH_FIELD))
+    if not date or not _is_day(date[1]) or not _LENGTH.fullmatch(length):
+        return None
+    return _Head(_fields_of(head), end + len(CLOSING) - start, int(length))
+
+
+def _value(head: bytes, start: int) -> bytes:
+    """Returns the value of a field whose colon ends at an index."""
+    return head[start : head.index(b"\r", start)].strip(b" \t")
+
+
+@functools.lru_cache(maxsize=1000)
+def _is_day(text: bytes) -> bool:
+    """Returns whether there is a day of this year, month and day, `YYYY-MM-DD`."""
+    try:
+        datetime.date(int(text[:4]), int(text[5:7]), int(text[8:]))
+    except ValueError:
+        return False
+    return True
+
+
+def _fields_of(head: bytes) -> Fields:
+    """Returns the fields of a head of the usual form, as `Head.fields_of` does of any other."""
+    lines = head.decode(errors="surrogateescape").split("\r\n")[1:-1]
+    parts = [line.partition(":") for line in lines]
+    return tuple([(name, value.strip(" \t")) for name, _, value in parts])
+
+
+def usual_record(text: bytes) -> Optional[Record]:
+    """Returns the record that a text is, or None if it isn't exactly one record of the usual form."""
+    head = usual_head(text)
+    if head is None or head.size + head.block + len(CLOSING) != len(text) or not text.endswith(CLOSING):
+        return None
+    return Record(head.fields, text[head.size : -len(CLOSING)])
+
+
+class ArchiveFile:
+    """An archive that is open to be read at any place. Raises OSError if it isn't a file, or can't be opened.
+
+    `size` is that of the file when it was opened, in bytes. `end` is the offset up to which records were yielded.
+    """
+
+    def __init__(self, path: str) -> None:
+        if not stat.S_ISREG(os.stat(path).st_mode):  # opening a pipe waits for who writes it
+            raise OSError("not a regular file")
+        self._number = os.open(path, os.O_RDONLY | os.O_CLOEXEC)
+        self.size = os.fstat(self._number).st_size
+        self.end = 0
+        self._start = 0  # the offset of the bytes that are held
+        self._held = b""
+
+    def is_packed(self) -> bool:
+        """Returns whether the file begins as a compressed archive does."""
+        return os.pread(self._number, len(MAGIC), 0) == MAGIC
+
+    def plain_text(self, offset: int, length: int, most: int = MOST) -> Optional[bytes]:
+        """Returns these bytes of a plain archive, or None if they are too many or the file ends in them."""
+        if length > most or not 0 <= offset <= self.size - length:
+            return None
+        text = os.pread(self._number, length, offset)
+        return text if len(text) == length else None
+
+    def member_text(self, offset: int, length: Optional[int] = None, most: int = MOST) -> Optional[bytes]:
+        """Returns the text of the member of gzip that begins at an offset, and has this length if one is given.
+
+        Returns None if that isn't so, or the text has more than `most` bytes.
+        """
+        if length is not None and length > most or not 0 <= offset < self.size:
+            return None
+        if length is not None:  # nothing else is read
+            self._held, self._start = os.pread(self._number, length, offset), offset
+        found = self._member(offset, most)
+        return found[0] if found and length in (None, found[1]) else None
+
+    def plain_records(self) -> Iterator[Record]:
+        """Yields the records of a plain archive, up to the first one that isn't of the usual form."""
+        while found := self._plain_record(self.end):
+            record, length = found
+            self.end += length
+            yield record
+
+    def packed_records(self) -> Iterator[Record]:
+        """Yields the records of a compressed archive, up to the first one that isn't of the usual form.
+
+        Members without a text are passed over.
+        """
+        while found := self._member(self.end, MOST):
+            text, length = found
+            record = usual_record(text)
+            if record is None and text:
+                return
+            self.end += length
+            if record is not None:
+                yield record
+
+    def _plain_record(self, offset: int) -> Optional[tuple[Record, int]]:
+        """Returns the record that begins at an offset, and its length."""
+        at = self._look(offset, 1)
+        head = usual_head(self._held, at)
+        if head is None and at:  # it may end in what isn't held yet
+            at = self._look(offset, _AHEAD)
+            head = usual_head(self._held, at)
+        if head is None:
+            return None
+        size = head.size + head.block + len(CLOSING)
+        if size > MOST or offset + size > self.size:
+            return None
+        at = self._look(offset, size)
+        text = self._held[at : at + size]
+        return (Record(head.fields, text[head.size : -len(CLOSING)]), size) if text.endswith(CLOSING) else None
+
+    def _member(self, offset: int, most: int) -> Optional[tuple[bytes, int]]:
+        """Returns the text and the length of a good member whose text has at most `most` bytes."""
+        unpacker, pieces, left, end = zlib.decompressobj(_GZIP), [], most, offset
+        while not unpacker.eof:
+            at = self._look(end, 1)
+            packed = self._held[at : at + _PACKED]
+            try:
+                piece = unpacker.decompress(packed, left + 1)
+            except zlib.error:
+                return None
+            left -= len(piece)
+            if not packed or left < 0:
+                return None
+            pieces.append(piece)
+            end += len(packed)
+        return b"".join(pieces), end - len(unpacker.unused_data) - offset
+
+    def _look(self, offset: int, least: int) -> int:
+        """Holds at least so many bytes from an offset on, if the file has them. Returns the index of the first one."""
+        at = offset - self._start
+        if not 0 <= at <= len(self._held) - least:
+            self._held = os.pread(self._number, max(least, _AHEAD), offset)
+            self._start, at = offset, 0
+        return at
+
+    def close(self) -> None:
+        os.close(self._number)
+
+    def __enter__(self) -> "ArchiveFile":
+        return self
+
+    def __exit__(
+        self, kind: Optional[type[BaseException]], error: Optional[BaseException], trace: Optional[TracebackType]
+    ) -> None:
+        self.close()
