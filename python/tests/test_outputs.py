@@ -134,11 +134,9 @@ class Waiting(Case):
         return subprocess.Popen((sys.executable, *map(str, words)), cwd=self.folder, **streams)
 
     def test_an_input_that_pauses_is_read_to_its_end(self) -> None:
-        record = resource(0, b"block")
         for words, pieces, wanted in (
             ((FOLDER / "bin/warcdx-cdx", "--warcdx", PROGRAM, "from"), [f"{CDX}\n".encode()] * 3, 3),
             ((FOLDER / "bin/warcdx-cdx", "--warcdx", PROGRAM, "to"), [line.encode() for line in lines(3).splitlines(True)], 4),
-            ((FOLDER.parent / "examples/body.py",), [record[:50], record[50:-7], record[-7:]], 0),
         ):
             reading_end, writing_end = os.pipe()
             os.set_blocking(reading_end, False)

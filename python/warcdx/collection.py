@@ -12,14 +12,15 @@ from .program import Path, find_program
 from .query import Capture
 from .record import Record, RecordStream
 
-Archives = Union[Path, Mapping[str, Path]]
+Archives = Union[Path, Sequence[Path], Mapping[str, Path]]
 _MOST_KNOWN = 4096  # archives of which the path and the form are kept
 
 
 class Collection:
     """Indexes, and the archives that they name.
 
-    `archives` is the folder of the archives, or a mapping from the file names in the indexes to paths. In a
+    `archives` is the folder of the archives, several folders, or a mapping from the file names in the indexes to
+    paths. Of several folders, the first that has a file of the name counts. In a
     folder, a file name in an index may name a file in a folder below, as in `2016/a.warc.gz`. One that begins
     with `/`, or has an empty part, `.` or `..` between its slashes, names no archive, so that no name leads out
     of the folder. Symbolic links in the folder are followed.
@@ -79,7 +80,9 @@ class Collection:
         path = _path_of(name)
         if path is None:
             raise NoArchive(name)
-        return os.path.join(os.fspath(self._archives), path)
+        folders = [self._archives] if isinstance(self._archives, (str, os.PathLike)) else self._archives
+        found = [os.path.join(os.fspath(folder), path) for folder in folders]
+        return next((each for each in found if os.path.exists(each)), found[0])
 
     def close(self) -> None:
         """Ends the processes of the index."""

@@ -109,6 +109,9 @@ warcdx-verify --j|--jobs
 warcdx-verify --jobs |
 warcdx-verify --jobs 2 |a.warc b.warc.gz
 warcdx-verify a.warc --v|--version
+warcdx-fetch --|--all --archives --at --help --index --output --record --version --warcdx
+warcdx-fetch --a|--all --archives --at
+warcdx-fetch --at |
 warcdx-update --|--all-faults --dry-run --help --jobs --quiet --recursive --remove --report --scheduler --types --version --warcdx --warcdx-gz
 warcdx-update --re|--recursive --remove --report
 warcdx-update --jobs |

@@ -116,7 +116,13 @@ row "\`the parts have N captures, and the index of them has M\`"
 row "\`the module distributed is missing (Debian's package python3-distributed)\`, \`Python's package surt is missing\`"
 
 body() { # FILE: the body of the record
-    "$root/examples/body.py" < "$1"
+    PYTHONPATH=$root/python python3 -c 'if True:
+        import sys, warcdx
+        try:
+            sys.stdout.buffer.write(warcdx.payload(sys.stdin.buffer.read()))
+        except warcdx.Unreadable as fault:
+            sys.exit(str(fault))
+    ' < "$1"
 }
 record_with() { # FIELD BODY: a record of a response with this field
     local block

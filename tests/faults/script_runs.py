@@ -32,6 +32,7 @@ VERIFIED = (
     b"WARC-Block-Digest: sha256:%b\r\nContent-Length: 5\r\n\r\n%b\r\n\r\n"
 )
 CDX_LINE = b"com,example)/%07d 20160919172024 http://example.com/%07d text/html 200 - - - 1 %d a.warc\n"
+PAGE_LINE = b'com,example)/ 20160919172024 {"url": "http://example.com/", "length": "%d", "offset": "0", "filename": "page.warc"}\n'
 BODY = bytes(range(256)) * 2000
 STAND_IN = "def surt(url):\n    return url[::-1]\n"
 Word = Union[str, bytes]
@@ -60,20 +61,21 @@ class Script(NamedTuple):
 
 def scripts_of(program: pathlib.Path) -> tuple[Script, ...]:
     """Returns the runs of each command. A new command has its own here."""
-    verify, cdx = ROOT / "python/bin/warcdx-verify", ROOT / "python/bin/warcdx-cdx"
+    fetch, verify, cdx = (ROOT / "python/bin" / name for name in ("warcdx-fetch", "warcdx-verify", "warcdx-cdx"))
     find_packed_program(program)  # which warcdx-verify finds too
     of_warcdx = ("--warcdx", str(program))
     return (
         Script("warcdx-verify", verify, (*of_warcdx, "digests.warc.gz"), "digests.warc.gz"),
         Script("warcdx-verify of a plain archive", verify, (*of_warcdx, "digests.warc"), "digests.warc"),
         Script("warcdx-verify of two at a time", verify, (*of_warcdx, "--jobs", "2", "digests.warc.gz", "digests.warc")),
+        Script("warcdx-fetch", fetch, (*of_warcdx, "--index", "page.cdxj", "http://example.com/"), "page.cdxj"),
+        Script("warcdx-fetch of a record", fetch, (*of_warcdx, "--index", "page.cdxj", "--record", "http://example.com/")),
         Script("warcdx-cdx to", cdx, (*of_warcdx, "to", "a.cdxj"), "a.cdxj"),
         Script("warcdx-cdx to of standard input", cdx, (*of_warcdx, "to"), reads="a.cdxj"),
         Script("warcdx-cdx from", cdx, (*of_warcdx, "from", "a.cdx"), "a.cdx"),
         Script("warcdx-cdx from of standard input", cdx, (*of_warcdx, "from"), reads="a.cdx"),
         Script("warcdx-update", ROOT / "python/bin/warcdx-update", has_output=False),
         *gateway(program),
-        Script("body.py", ROOT / "examples/body.py", reads="page.warc", has_version=False),
         Script("surt_keys.py", ROOT / "examples/surt_keys.py", reads="a.cdxj", has_version=False),
     )
 
@@ -106,13 +108,15 @@ def inputs() -> Mapping[str, bytes]:
     numbers = range(10_000, 14_000)
     digests = (hashlib.sha256(b"%d" % number).hexdigest().encode() for number in numbers)
     with_digests = [VERIFIED % (digest, b"%d" % number) for digest, number in zip(digests, numbers)]
-    page = b"HTTP/1.1 200 OK\r\n\r\n" + BODY
+    response = b"HTTP/1.1 200 OK\r\n\r\n" + BODY
+    page = PAGE % (len(response), response)
     return {
         "a.warc.gz": b"".join(gzip.compress(record, 1, mtime=0) for record in records),
         "b.warc": b"".join(records),
         "digests.warc.gz": b"".join(gzip.compress(record, 1, mtime=0) for record in with_digests),
         "digests.warc": b"".join(with_digests),
-        "page.warc": PAGE % (len(page), page),
+        "page.warc": page,
+        "page.cdxj": PAGE_LINE % len(page),
         "a.cdxj": b"".join(LINE % (number, number, number) for number in range(MANY)),
         "a.cdx": b"".join(CDX_LINE % (number, number, number) for number in range(MANY)),
         "surt.py": STAND_IN.encode(),

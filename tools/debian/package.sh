@@ -94,8 +94,9 @@ Description: indexer of web archives, with queries over the indexes
  makes, merges and checks indexes, and answers queries in the manner of the
  Wayback CDX Server API, page by page. It fetches records from their offsets.
  The program warcdx-gz does the same for compressed archives too, and a Python
- package from programs. The command warcdx-verify checks the digests of blocks
- and payloads, and warcdx-cdx converts CDX files of eleven columns. The command
+ package from programs. The command warcdx-fetch writes pages by their URLs,
+ warcdx-verify checks the digests of blocks and payloads, and warcdx-cdx
+ converts CDX files of eleven columns. The command
  warcdx-gateway is an HTTP server for the clients of Wayback CDX servers; it
  needs gunicorn, python3-werkzeug, python3-prometheus-client and python3-regex.
 END

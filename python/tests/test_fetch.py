@@ -1,0 +1,203 @@
+"""Tests of warcdx-fetch: which capture it takes, what it writes, and that nothing is replaced."""
+import datetime
+import gzip
+import os
+import pathlib
+import subprocess
+import sys
+import unittest
+from typing import Optional
+
+from warcdx import fetch_command, open_archive
+from warcdx.fetching import moment_of, nearest
+from warcdx.query import Capture
+
+from .support import PROGRAM, Case, packed
+
+FOLDER = pathlib.Path(__file__).resolve().parents[1]
+URL = "http://example.com/"
+
+
+def response(time: str, body: bytes, url: str = URL, fields: bytes = b"", kind: str = "response", more: str = "") -> bytes:
+    http = b"HTTP/1.1 200 OK\r\nContent-Type: text/html\r\n" + fields + b"\r\n" + body
+    head = (
+        f"WARC/1.1\r\nWARC-Type: {kind}\r\nWARC-Record-ID: <urn:x:1>\r\nWARC-Date: {time}\r\nWARC-Target-URI: {url}\r\n"
+        f"{more}Content-Type: application/http; msgtype=response\r\nContent-Length: {len(http)}\r\n\r\n"
+    )
+    return head.encode() + http + b"\r\n\r\n"
+
+
+def capture(timestamp: str) -> Capture:
+    return Capture("k", timestamp, URL, "-", "-", "-", None, 0, "a.warc")
+
+
+OLD = response("2016-09-19T17:20:24Z", b"old")
+NEW = response("2018-01-02T03:04:05Z", b"5\r\nnew!\n\r\n0\r\n\r\n", fields=b"Transfer-Encoding: chunked\r\n")
+SAME = "WARC-Refers-To-Target-URI: http://example.com/\r\nWARC-Refers-To-Date: 2016-09-19T17:20:24Z\r\n"
+AGAIN = response("2019-01-01T00:00:00Z", b"", "http://example.com/again", kind="revisit", more=SAME)
+LOST = response("2019-01-01T00:00:00Z", b"", "http://example.com/lost", kind="revisit", more=SAME.replace("2016", "2015"))
+
+
+class Moments(unittest.TestCase):
+    def test_a_short_time_is_filled_to_its_end(self) -> None:
+        for text, wanted in (
+            ("2016", "2016-12-31T23:59:59"),
+            ("201602", "2016-02-29T23:59:59"),
+            ("201702", "2017-02-28T23:59:59"),
+            ("201612", "2016-12-31T23:59:59"),
+            ("20160919", "2016-09-19T23:59:59"),
+            ("2016091917", "2016-09-19T17:59:59"),
+            ("201609191720", "2016-09-19T17:20:59"),
+            ("20160919172024", "2016-09-19T17:20:24"),
+            ("2016-09-19", "2016-09-19T23:59:59"),
+            ("2016-09-19T17:20:24Z", "2016-09-19T17:20:24"),
+            ("2016-09-19T17:20:24+02:00", "2016-09-19T15:20:24"),
+        ):
+            self.assertEqual(f"{wanted}+00:00", moment_of(text).isoformat(), text)
+
+    def test_others_are_no_times(self) -> None:
+        for text in ("", "2", "201", "20161", "201613", "20160230", "2016-13-01", "0000", "x", "201609191720245", "\u0662016"):
+            with self.assertRaises(ValueError, msg=text):
+                moment_of(text)
+
+    def test_the_nearest_capture(self) -> None:
+        captures = [capture(f"{year}0101000000") for year in (2010, 2012, 2016)]
+        for year, wanted in ((1990, "2010"), (2011, "2010"), (2013, "2012"), (2015, "2016"), (2020, "2016")):
+            found = nearest(captures, datetime.datetime(year, 1, 1, tzinfo=datetime.timezone.utc))
+            self.assertEqual(f"{wanted}0101000000", found and found.timestamp, year)
+        self.assertEqual(captures[-1], nearest(captures))
+        self.assertIsNone(nearest([]))
+
+    def test_a_timestamp_that_is_no_date_is_the_last_choice(self) -> None:
+        odd, usual = capture("20169999999999"), capture("20160101000000")
+        self.assertEqual(usual, nearest([odd, usual, odd]))
+        self.assertEqual(odd, nearest([odd]))
+
+
+class Fetching(Case):
+    def setUp(self) -> None:
+        super().setUp()
+        self.archive, self.packed = self.folder / "a.warc", self.folder / "b.warc.gz"
+        self.archive.write_bytes(OLD + NEW + AGAIN + LOST)
+        self.packed.write_bytes(b"".join(packed(OLD, NEW, AGAIN, LOST)))
+        for name, path in (("a.cdxj", self.archive), ("b.cdxj", self.packed)):
+            with open(self.folder / name, "wb") as index:
+                open_archive(path, program=PROGRAM).index(index)
+
+    def fetch(self, *words: str, index: str = "a.cdxj", environment: Optional[dict[str, str]] = None) -> tuple[int, bytes, str]:
+        options = ["--index", index] if index else []
+        done = subprocess.run(
+            (sys.executable, FOLDER / "bin/warcdx-fetch", "--warcdx", PROGRAM, *options, *words),
+            cwd=self.folder,
+            env={**os.environ, **(environment or {})},
+            stdout=subprocess.PIPE,
+            stderr=subprocess.PIPE,
+        )
+        return done.returncode, done.stdout, done.stderr.decode()
+
+    def test_a_page(self) -> None:
+        for index in ("a.cdxj", "b.cdxj"):
+            for words, wanted in (
+                ((URL,), b"new!\n"),
+                (("--at", "2017", URL), b"new!\n"),
+                (("--at", "2016", URL), b"old"),
+                (("--at=1999", URL), b"old"),
+                (("example.com",), b"new!\n"),
+                (("http://example.com/again",), b"old"),
+                (("--record", URL), NEW),
+                (("--record", "http://example.com/again"), AGAIN),
+            ):
+                self.assertEqual((0, wanted, ""), self.fetch(*words, index=index), (index, words))
+
+    def test_no_page(self) -> None:
+        for words, wanted in (
+            (("http://example.com/none",), "http://example.com/none: no index has a capture of it"),
+            (("http://example.com/lost",), "http://example.com/lost: it is a revisit, and no index has its original"),
+        ):
+            self.assertEqual((1, b"", f"warcdx-fetch: {wanted}\n"), self.fetch(*words), words)
+        os.remove(self.archive)
+        self.assertEqual((3, b"", f"warcdx-fetch: {self.folder}/a.warc: cannot open\n"), self.fetch(URL))
+
+    def test_variables_of_the_environment(self) -> None:
+        folder = self.folder / "moved"
+        folder.mkdir()
+        os.rename(self.folder / "a.cdxj", folder / "x.cdxj")
+        names = {"WARCDX_INDEX": "moved/x.cdxj", "WARCDX_ARCHIVES": "."}
+        self.assertEqual((0, b"new!\n", ""), self.fetch(URL, index="", environment=names))
+        self.assertEqual((0, b"new!\n", ""), self.fetch("--archives", "nosuch", "--archives", ".", URL, index="moved/x.cdxj"))
+        status, output, error = self.fetch(URL, index="", environment={"WARCDX_INDEX": ""})
+        self.assertEqual((2, b""), (status, output))
+        self.assertIn("give --index INDEX", error)
+
+    def test_a_file_is_new(self) -> None:
+        self.assertEqual((0, b"", ""), self.fetch("-o", "page", URL))
+        self.assertEqual(b"new!\n", (self.folder / "page").read_bytes())
+        status, output, error = self.fetch("-o", "page", "--at", "2016", URL)
+        self.assertEqual((3, b"", "warcdx-fetch: page: it is there, and isn't replaced\n"), (status, output, error))
+        self.assertEqual(b"new!\n", (self.folder / "page").read_bytes())
+        self.assertEqual(1, self.fetch("-o", "lost", "http://example.com/lost")[0])
+        self.assertEqual({"a.warc", "b.warc.gz", "a.cdxj", "b.cdxj", "page"}, set(os.listdir(self.folder)))
+
+    def test_all_as_files(self) -> None:
+        status, output, error = self.fetch("--all", "-o", "all", "example.com/*")
+        self.assertEqual(1, status)
+        self.assertEqual("warcdx-fetch: 20190101000000 http://example.com/lost: it is a revisit, and no index has its original\n", error)
+        names = [line.split(b" ")[0].decode() for line in output.splitlines()]
+        self.assertEqual(
+            ["20160919172024-example.com.html", "20180102030405-example.com.html", "20190101000000-example.com_again"],
+            names,
+        )
+        self.assertEqual([b"old", b"new!\n", b"old"], [(self.folder / "all" / name).read_bytes() for name in names])
+        self.assertEqual(sorted(names), sorted(os.listdir(self.folder / "all")))
+        self.assertEqual(3, self.fetch("--all", "-o", "all", "example.com/*")[0])
+
+    def test_all_as_an_archive(self) -> None:
+        for index in ("a.cdxj", "b.cdxj"):
+            name = f"{index}.warc.gz"
+            self.assertEqual((0, b"", ""), self.fetch("--all", "-o", name, "url=example.com/*&from=2018", index=index))
+            self.assertEqual(NEW + AGAIN + LOST, gzip.decompress((self.folder / name).read_bytes()))
+
+    def test_a_record_that_is_damaged_leaves_nothing_in_an_archive(self) -> None:
+        damaged = bytearray(self.packed.read_bytes())
+        damaged[len(packed(OLD)[0]) - 6] ^= 1  # in the checksum of the first member
+        self.packed.write_bytes(damaged)
+        status, _, error = self.fetch("--all", "-o", "c.warc.gz", "url=example.com/*&to=2018", index="b.cdxj")
+        self.assertEqual(1, status)
+        self.assertIn("BadMember 0", error)
+        self.assertEqual(NEW, gzip.decompress((self.folder / "c.warc.gz").read_bytes()))
+
+    def test_usage(self) -> None:
+        for words, wanted in (
+            (("--all", URL), "--all needs -o OUTPUT"),
+            (("--all", "-o", "x", "--at", "2016", URL), "--at"),
+            (("--at", "never", URL), "TIME is a date"),
+            ((), "URL"),
+        ):
+            status, output, error = self.fetch(*words)
+            self.assertEqual((2, b"", 1), (status, output, error.count("\n")), words)
+            self.assertIn(wanted, error)
+
+
+class Names(unittest.TestCase):
+    def test_names_of_files(self) -> None:
+        for url, mime, wanted in (
+            ("http://a.com/x.png", "image/png", "a.com_x.png"),
+            ("http://a.com/", "text/html", "a.com.html"),
+            ("http://a.com", "text/html", "a.com.html"),
+            ("http://a.com/../../etc/passwd", "x/none", "a.com_.._.._etc_passwd"),
+            ("http://a.com/%2e%2e%2fx?q=1&r", "x/none", "a.com_.._x_q_1_r"),
+            ("http://a.com/x.php?q=b.c", "text/html", "a.com_x.php_q_b.c.php"),
+            ("http://a.com/" + "y" * 999, "x/none", ("a.com_" + "y" * 999)[:150]),
+            ("dns:a.com", "x/none", "dns_a.com"),
+            ("http://a.com/\x00\n\ud800", "x/none", "a.com"),
+        ):
+            found = fetch_command.name_of(capture("20160919172024")._replace(original=url, mimetype=mime), False)
+            self.assertEqual(f"20160919172024-{wanted}", found, url)
+
+    def test_a_name_that_is_used_gets_a_number(self) -> None:
+        names: set[str] = set()
+        self.assertEqual(["a.txt", "A-2.txt", "a-3.txt"], [fetch_command.unused(name, names) for name in ("a.txt", "A.txt", "a.txt")])
+
+
+if __name__ == "__main__":
+    unittest.main()

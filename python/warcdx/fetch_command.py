@@ -1,0 +1,239 @@
+"""Writes the page of a URL from web archives, or what all captures of a query hold.
+
+usage: warcdx-fetch [--index INDEX].. [--archives FOLDER].. [--at TIME] [--record] [-o FILE] [--warcdx PROGRAM] URL
+       warcdx-fetch --all [--index INDEX].. [--archives FOLDER].. [--record] -o OUTPUT [--warcdx PROGRAM] QUERY
+
+Without --all, the capture of the URL that is nearest to TIME is written, or else the latest one. TIME is a date, such as
+2016, 201609 or 2016-09-19, or 14 digits. The page is written as a browser gets it: without the heads, and without
+chunks and compression. For a revisit it is the page of its original. With --record the whole record is written as it is
+stored.
+
+With --all, every capture that QUERY selects is written: into a new folder OUTPUT, with a file for each and a line
+`FILE TIMESTAMP URL` for each on standard output; or into a new archive, if OUTPUT ends with .warc.gz, with the records as
+they are stored. QUERY is a URL, in which * stands at the end or before the host, or a query as of warcdx query.
+
+INDEX is by default the file of the variable WARCDX_INDEX, and FOLDER that of WARCDX_ARCHIVES, or else the folder of the
+first INDEX. No file is replaced. One has its name once it is whole.
+
+The exit status is 0; 1 if there is no such capture, or one can't be read; 2 after a usage error; or 3 if a file can't
+be opened, or reading, writing, memory or the program failed. With --all what can't be read is named on standard error,
+and the others are written.
+"""
+import argparse
+import contextlib
+import errno
+import functools
+import mimetypes
+import os
+import re
+import urllib.parse
+import zlib
+from collections.abc import Iterable, Iterator, Sequence
+from typing import IO, BinaryIO, Optional
+
+from . import __version__
+from .collection import Collection
+from .command import FAILED, Parser, printable, report, run
+from .errors import Error, Fault, NoArchive, Refused
+from .faults import CannotFlush, CannotOpen, Input, Memory, Read, Write
+from .fetching import moment_of, nearest, opened_page
+from .query import Capture
+from .record import RecordStream, Unreadable
+
+NAME = "warcdx-fetch"
+ARCHIVE = ".warc.gz"
+MISSED = 1  # the exit status if there is no such capture, or one can't be read
+_FAILURES = (CannotFlush, Input, Memory, Read, Write)
+_MOST_NAME = 150  # characters of a file's name that are of its URL
+_UNSAFE = re.compile("[^A-Za-z0-9._-]+")
+_ENDING = re.compile(r"\.[A-Za-z0-9]{1,8}")
+_PARAMETERS = re.compile("[A-Za-z]+=")
+
+
+def read_arguments(arguments: Optional[Sequence[str]]) -> argparse.Namespace:
+    parser = Parser(NAME, __doc__)
+    add = parser.add_argument
+    add("--version", action="version", version=f"{NAME} {__version__}")
+    add("--index", action="append", default=[], metavar="INDEX", help="an index of the archives; may be repeated")
+    add("--archives", action="append", default=[], metavar="FOLDER", help="a folder with the archives; may be repeated")
+    add("--at", type=_moment_of, metavar="TIME", help="write the capture nearest to this time")
+    add("--all", action="store_true", help="write every capture that QUERY selects")
+    add("--record", action="store_true", help="write records as they are stored")
+    add("-o", "--output", metavar="FILE", help="the new file, or with --all the new folder or archive")
+    add("--warcdx", default="warcdx", metavar="PROGRAM", help="the program (%(default)s); warcdx-gz is beside it, or of the PATH")
+    add("query", metavar="URL")
+    given = parser.parse(arguments)
+    given.index = given.index or list(filter(None, [os.environ.get("WARCDX_INDEX")]))
+    if not given.index:
+        parser.error("give --index INDEX, an index of the archives, as 'warcdx index' writes it")
+    given.archives = given.archives or [os.environ.get("WARCDX_ARCHIVES") or os.path.dirname(os.path.abspath(given.index[0]))]
+    if given.all and given.output is None:
+        parser.error("--all needs -o OUTPUT, a new folder or a new .warc.gz")
+    if given.all and given.at is not None:
+        parser.error("--all writes the captures of all times; write from= and to= into QUERY in place of --at")
+    return given
+
+
+def _moment_of(text: str) -> object:
+    try:
+        return moment_of(text)
+    except (OverflowError, ValueError):
+        raise argparse.ArgumentTypeError("TIME is a date, such as 2016, 201609 or 2016-09-19, or 14 digits") from None
+
+
+def fetch(given: argparse.Namespace, output: BinaryIO) -> int:
+    """Writes what is asked for, and returns the exit status. Raises Error or OSError."""
+    with Collection(given.index, given.archives, program=given.warcdx) as collection:
+        if not given.all:
+            return fetch_page(given, collection, output)
+        captures = captures_of(collection, given.query)
+        if given.output.endswith(ARCHIVE):
+            with new_file(given.output) as file:
+                return write_archive(collection, captures, file)
+        os.mkdir(given.output)
+        return write_files(given, collection, captures, output)
+
+
+def fetch_page(given: argparse.Namespace, collection: Collection, output: BinaryIO) -> int:
+    """Writes the page, or the record, that is nearest to a time, and returns the exit status."""
+    capture = nearest(collection.index.captures(url=given.query, matchType="exact"), given.at)
+    if capture is None:
+        report(NAME, f"{printable(given.query)}: no index has a capture of it")
+        return MISSED
+    with new_file(given.output) if given.output else contextlib.nullcontext(output) as file:
+        file.writelines(contents_of(collection, capture, given.record))
+    return 0
+
+
+def captures_of(collection: Collection, query: str) -> Iterator[Capture]:
+    """Returns the captures of a query as of warcdx query, or of a URL."""
+    return collection.index.captures(query) if _PARAMETERS.match(query) else collection.index.captures(url=query)
+
+
+def contents_of(collection: Collection, capture: Capture, is_record: bool) -> Iterator[bytes]:
+    """Yields the record of a capture as it is stored, or its page, in pieces. Raises Error."""
+    if is_record:
+        with collection.stream(capture) as record:
+            yield from record.whole()
+        return
+    with opened_page(collection, capture) as page:
+        if page is None:
+            raise Unreadable("it is a revisit, and no index has its original")
+        yield from page.payload()
+
+
+def write_files(given: argparse.Namespace, collection: Collection, captures: Iterable[Capture], output: BinaryIO) -> int:
+    """Writes each capture into a file of the new folder, and returns the exit status."""
+    status, names = 0, set[str]()
+    for capture in captures:
+        name = unused(name_of(capture, given.record), names)
+        try:
+            with new_file(os.path.join(given.output, name)) as file:
+                file.writelines(contents_of(collection, capture, given.record))
+        except Error as error:
+            status = max(status, say(capture, error))
+        else:
+            output.write(f"{name} {capture.timestamp} {capture.original}\n".encode(errors="surrogateescape"))
+    return status
+
+
+def write_archive(collection: Collection, captures: Iterable[Capture], file: IO[bytes]) -> int:
+    """Writes each record as a member of an archive, and returns the exit status. What was begun of one that can't be read is taken back."""
+    status = 0
+    for capture in captures:
+        begin = file.tell()
+        try:
+            with collection.stream(capture) as record:
+                write_member(record, file)
+        except Error as error:
+            file.seek(begin)
+            file.truncate()
+            status = max(status, say(capture, error))
+    return status
+
+
+def write_member(record: RecordStream, file: IO[bytes]) -> None:
+    packing = zlib.compressobj(wbits=zlib.MAX_WBITS + 16)
+    for piece in record.whole():
+        file.write(packing.compress(piece))
+    file.write(packing.flush())
+
+
+def say(capture: Capture, error: Error) -> int:
+    """Reports a capture that can't be read, and returns the exit status. Raises the error if it is none of the archive."""
+    if isinstance(error, _FAILURES) or not isinstance(error, (Fault, NoArchive, Unreadable)):
+        raise error
+    report(NAME, f"{capture.timestamp} {printable(capture.original)}: {reason_of(error)}")
+    return FAILED if isinstance(error, CannotOpen) else MISSED
+
+
+def reason_of(error: Error) -> str:
+    if not isinstance(error, Fault):
+        return printable(str(error))
+    file = "" if error.file is None else f"{printable(error.file)}: "
+    place = "" if error.offset is None else f" {error.offset}"
+    return f"{file}{'cannot open' if isinstance(error, CannotOpen) else error.name}{place}"
+
+
+def name_of(capture: Capture, is_record: bool) -> str:
+    """Returns the name of a capture's file: its timestamp, its URL in letters that every system takes, and an ending of its type."""
+    url = urllib.parse.unquote(capture.original.partition("://")[2] or capture.original, errors="replace")
+    front = _UNSAFE.sub("_", url).strip("_")
+    ending = ".warc" if is_record else os.path.splitext(url.partition("/")[2].partition("?")[0])[1]
+    if not _ENDING.fullmatch(ending):
+        ending = mimetypes.guess_extension(capture.mimetype) or ""
+    return f"{capture.timestamp}-{front.removesuffix(ending)[:_MOST_NAME]}{ending}"
+
+
+def unused(name: str, names: set[str]) -> str:
+    """Returns a name that isn't among the names, with a number if it has to be another one, and adds it."""
+    front, ending = os.path.splitext(name)
+    found, number = name, 1
+    while found.lower() in names:
+        number += 1
+        found = f"{front}-{number}{ending}"
+    names.add(found.lower())
+    return found
+
+
+@contextlib.contextmanager
+def new_file(path: str) -> Iterator[IO[bytes]]:
+    """Makes a file that has its name once it is whole. Raises FileExistsError if anything has the name."""
+    folder, name = os.path.split(path)
+    begun = os.path.join(folder, f".{name[:_MOST_NAME]}-{os.getpid()}")
+    if os.path.lexists(path):
+        raise FileExistsError(errno.EEXIST, "it is there, and isn't replaced", path)
+    try:
+        file = open(begun, "xb")
+    except OSError as error:
+        raise OSError(error.errno, error.strerror, path) from error
+    try:
+        with file:
+            yield file
+            file.flush()
+            os.fsync(file.fileno())
+        os.link(begun, path)  # which replaces nothing
+    finally:
+        os.remove(begun)
+
+
+def work(arguments: Optional[Sequence[str]], output: BinaryIO) -> int:
+    given = read_arguments(arguments)
+    try:
+        return fetch(given, output)
+    except Refused as refused:
+        report(NAME, f"{printable(given.query)}: {printable(str(refused))}")
+        return MISSED
+    except Fault as fault:
+        report(NAME, reason_of(fault))
+        return FAILED if isinstance(fault, (CannotOpen, *_FAILURES)) else MISSED
+    except (NoArchive, Unreadable) as error:
+        report(NAME, f"{printable(given.query)}: {printable(str(error))}")
+        return MISSED
+    except Error as error:
+        report(NAME, printable(str(error).partition("\n")[0]))
+        return FAILED
+
+
+def main(arguments: Optional[Sequence[str]] = None) -> int:
+    return run(NAME, functools.partial(work, arguments))

@@ -1,0 +1,99 @@
+"""From a URL and a time to the capture and the record that a reader of the page wants."""
+import calendar
+import contextlib
+import datetime
+import re
+from collections.abc import Iterable, Iterator
+from typing import Optional
+from urllib.parse import quote_plus
+
+from .collection import Collection
+from .query import Capture
+from .record import Head, RecordStream
+
+REVISIT = "warc/revisit"
+_DAY = datetime.timedelta(days=1)
+_SECOND = datetime.timedelta(seconds=1)
+_DIGITS = re.compile("[0-9]{1,14}")
+_NOT_DIGITS = re.compile("[^0-9]")
+_SHA1 = re.compile("sha1:", re.IGNORECASE)
+
+
+def moment_of(text: str) -> datetime.datetime:
+    """Returns the time in UTC of 4 to 14 digits, or of a date of ISO 8601. What it leaves out is filled to the end of its period.
+
+    So `2016` is the last second of that year, and what is nearest to it is the last capture of the year, if there is one. Raises
+    ValueError if there is no such time.
+    """
+    if not _DIGITS.fullmatch(text):
+        return _moment_of_iso(text)
+    if len(text) < 4 or len(text) % 2:
+        raise ValueError("not a date")
+    year, month = int(text[:4]), int(text[4:6] or 12)
+    day = int(text[6:8] or calendar.monthrange(year, month)[1])
+    hour, minute, second = int(text[8:10] or 23), int(text[10:12] or 59), int(text[12:14] or 59)
+    return datetime.datetime(year, month, day, hour, minute, second, tzinfo=datetime.timezone.utc)
+
+
+def _moment_of_iso(text: str) -> datetime.datetime:
+    moment = datetime.datetime.fromisoformat(re.sub("[Zz]$", "+00:00", text))
+    if len(text) == len("2016-09-19"):
+        moment += _DAY - _SECOND
+    return moment.replace(tzinfo=moment.tzinfo or datetime.timezone.utc).astimezone(datetime.timezone.utc)
+
+
+def nearest(captures: Iterable[Capture], moment: Optional[datetime.datetime] = None) -> Optional[Capture]:
+    """Returns the capture nearest to a time, of two as near the earlier one; without a time the latest. None if there is none.
+
+    A capture whose timestamp is no date is returned only if there is no other.
+    """
+    best, distance = None, None
+    for capture in captures:
+        when = capture.datetime
+        if when is None:
+            best = best or capture
+        elif moment is None:
+            best, distance = capture, datetime.timedelta()
+        elif distance is None or abs(when - moment) < distance:
+            best, distance = capture, abs(when - moment)
+    return best
+
+
+def original_of(collection: Collection, head: Head) -> Optional[Capture]:
+    """Returns the capture whose payload a revisit stands for, by the head of its record, or None if no index has it.
+
+    It is one of the URL that the head refers to, or else of its own, with the digest and the time if the head has them, or else with
+    the digest alone.
+    """
+    url = _without_brackets(head.field("WARC-Refers-To-Target-URI") or head.field("WARC-Target-URI") or "")
+    digest = _SHA1.sub("", head.field("WARC-Payload-Digest") or "", count=1)
+    time = _NOT_DIGITS.sub("", head.field("WARC-Refers-To-Date") or "")[:14]
+    if not url:
+        return None
+    at = f"&from={time}&to={time}" if len(time) == 14 else ""
+    same = f"&is=digest:{quote_plus(digest, errors='surrogateescape')}" if digest else ""
+    asked = f"url={quote_plus(url, errors='surrogateescape')}&matchType=exact&isnot=mimetype:{REVISIT}&limit=1"
+    for conditions in filter(None, dict.fromkeys((at and at + same, same))):
+        for capture in collection.index.captures(asked + conditions):
+            return capture
+    return None
+
+
+def _without_brackets(url: str) -> str:
+    """Returns a URL without the brackets that GNU Wget writes around it."""
+    return url[1:-1] if url.startswith("<") and url.endswith(">") else url
+
+
+@contextlib.contextmanager
+def opened_page(collection: Collection, capture: Capture) -> Iterator[Optional[RecordStream]]:
+    """Opens the record with the payload of a capture, which for a revisit is its original's, or yields None if no index has that.
+
+    Raises as `Collection.stream` does.
+    """
+    with contextlib.ExitStack() as stack:
+        record = stack.enter_context(collection.stream(capture))
+        if record.head.kind == "revisit":
+            original = original_of(collection, record.head)
+            yield None if original is None else stack.enter_context(collection.stream(original))
+        else:
+            yield record
