@@ -4,9 +4,8 @@ usage: warcdx-fetch [--index INDEX].. [--archives FOLDER].. [--at TIME] [--recor
        warcdx-fetch --all [--index INDEX].. [--archives FOLDER].. [--record] -o OUTPUT [--warcdx PROGRAM] QUERY
 
 Without --all, the capture of the URL that is nearest to TIME is written, or else the latest one. TIME is a date, such as
-2016, 201609 or 2016-09-19, or 14 digits. The page is written as a browser gets it: without the heads, and without
-chunks and compression. For a revisit it is the page of its original. With --record the whole record is written as it is
-stored.
+2016, 201609 or 2016-09-19, or 14 digits. The page is written as a browser gets it: without headers, chunks and
+compression. For a revisit it is the page of its original. With --record the whole record is written as it is stored.
 
 With --all, every capture that QUERY selects is written: into a new folder OUTPUT, with a file for each and a line
 `FILE TIMESTAMP URL` for each on standard output; or into a new archive, if OUTPUT ends with .warc.gz, with the records as
@@ -82,7 +81,7 @@ def _moment_of(text: str) -> object:
 
 
 def fetch(given: argparse.Namespace, output: BinaryIO) -> int:
-    """Writes what is asked for, and returns the exit status. Raises Error or OSError."""
+    """Writes what the arguments name, and returns the exit status. Raises Error or OSError."""
     with Collection(given.index, given.archives, program=given.warcdx) as collection:
         if not given.all:
             return fetch_page(given, collection, output)
