@@ -16,15 +16,6 @@ MOST_INDEXES = 1024  # of the program
 MOST_WORKERS = 256
 LEAST_MEMORY = 256 << 20  # bytes
 WORDS = {int: "a whole number", str: "a text"}
-# What settings of earlier versions are replaced by.
-GONE = {
-    "exact": "is gone: 'workers' is how many requests are answered at a time",
-    "limits.connections": "is gone: nginx bounds connections, as in service/nginx.conf",
-    "limits.streams": "is gone: 'wide' is how many wide answers are made at a time",
-    "limits.waiting": "is gone: 'workers' is how many requests are answered at a time",
-    "limits.request": "is gone: nginx bounds the time of requests, as in service/nginx.conf",
-    "limits.piece": "is gone: 'timeout' is the time for a piece of an answer",
-}
 
 
 class BadSettings(Exception):
@@ -170,8 +161,7 @@ def values_of(kind: Any, table: object, where: str = "") -> dict[str, Any]:
     for name, value in table.items():
         full, wanted = f"{where}.{name}".lstrip("."), types.get(name)
         if wanted is None:
-            gone = GONE.get(full)
-            raise BadSettings(f"'{full}' {gone}" if gone else f"unknown setting '{full}'")
+            raise BadSettings(f"unknown setting '{full}'")
         if wanted in WORDS:
             require(type(value) is wanted, full, f"has to be {WORDS[wanted]}")
             found[name] = value
