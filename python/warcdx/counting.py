@@ -5,10 +5,9 @@ import itertools
 from collections import Counter
 from collections.abc import Iterable, Iterator
 from dataclasses import dataclass, field
-from typing import Optional
+from typing import Any, Optional
 
 from .index import PAGE_SIZE, Index
-from .query import Value
 
 ALL = "key=&matchType=prefix"
 REVISIT = "warc/revisit"
@@ -30,7 +29,7 @@ class Months:
         return sorted(month for month in self.captures if month != NO_DATE)
 
 
-def count_months(index: Index, query: str, **parameters: Value) -> Months:
+def count_months(index: Index, query: Optional[str] = None, **parameters: Any) -> Months:
     counts = Months()
     for stamp, mime in index.rows(("timestamp", "mimetype"), query, page_size=PAGE_SIZE, **parameters):
         month = stamp[:6]
@@ -49,7 +48,7 @@ def _named(counts: Counter[str]) -> Counter[str]:
     return named
 
 
-def count_days(index: Index, query: str, **parameters: Value) -> tuple[Counter[datetime.date], int]:
+def count_days(index: Index, query: Optional[str] = None, **parameters: Any) -> tuple[Counter[datetime.date], int]:
     """Returns the captures of each day, and the number of those whose stamp is no date."""
     digits: Counter[str] = Counter()
     for (stamp,) in index.rows(("timestamp",), query, page_size=PAGE_SIZE, **parameters):
@@ -63,7 +62,7 @@ def count_days(index: Index, query: str, **parameters: Value) -> tuple[Counter[d
     return days, others
 
 
-def count_values(index: Index, name: str, query: str, **parameters: Value) -> Counter[str]:
+def count_values(index: Index, name: str, query: Optional[str] = None, **parameters: Any) -> Counter[str]:
     """Returns the captures of each value of a field."""
     counts: Counter[str] = Counter()
     for (value,) in index.rows((name,), query, page_size=PAGE_SIZE, **parameters):
@@ -80,7 +79,7 @@ class Host:
     bytes: int
 
 
-def count_hosts(index: Index, query: str, most: int, **parameters: Value) -> list[Host]:
+def count_hosts(index: Index, query: str, most: int, **parameters: Any) -> list[Host]:
     """Returns the hosts with most bytes, at most `most`, and the others as one, if there are any.
 
     The captures of a host are one after another, so that only these hosts are held.
