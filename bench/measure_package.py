@@ -24,7 +24,7 @@ sys.path.insert(0, str(PACKAGE))
 from measuring import Figure, least_times, read_program, report, run_time
 from warcdx import Archive, Collection, Record, open_archive
 
-ROUNDS = 5
+ROUNDS = 7
 RECORDS = 5000
 ASKED = 100  # of these, by the program
 STARTS = 20  # of Python, for each of which the least counts

@@ -104,7 +104,7 @@ class Archive:
             yield from self._further_records(0 if file is None else file.end)
 
     def streams(self) -> Iterator[RecordStream]:
-        """Yields each record to be read in pieces, before the next one is taken, so that long ones take little memory."""
+        """Yields each record to be read in pieces, before the next one is taken. Long ones take little memory so."""
         for listed in self.list():
             with self.stream(listed.offset, length=listed.length) as stream:
                 yield stream

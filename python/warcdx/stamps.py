@@ -7,7 +7,8 @@ from .errors import refused
 
 Moment = Union[str, int, datetime.date, None]  # a datetime.datetime is a datetime.date
 _ISO = re.compile(
-    r"([0-9]{4})-([0-9]{2})(?:-([0-9]{2})(?:[T ]([0-9]{2}):([0-9]{2})(?::([0-9]{2})(?:[.,][0-9]+)?)?(Z|[+-][0-9]{2}:?[0-9]{2})?)?)?",
+    r"([0-9]{4})-([0-9]{2})(?:-([0-9]{2})(?:[T ]([0-9]{2}):([0-9]{2})(?::([0-9]{2})(?:[.,][0-9]+)?)?"
+    r"(Z|[+-][0-9]{2}:?[0-9]{2})?)?)?",
     re.ASCII | re.IGNORECASE,
 )
 _DIGITS = re.compile("[0-9]{1,14}", re.ASCII)
