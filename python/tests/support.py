@@ -77,10 +77,10 @@ class Case(unittest.TestCase):
         return index
 
     def raises(self, kind: type[BaseException], call: Callable[..., object], *arguments: Any, **named: Any) -> Any:
-        """Returns the exception of a call."""
+        """Returns the exception of a call, of this class or of one directly below it."""
         with self.assertRaises(kind) as caught:
             call(*arguments, **named)
-        self.assertIs(type(caught.exception), kind)
+        self.assertIn(kind, type(caught.exception).__mro__[:2])
         return caught.exception
 
 

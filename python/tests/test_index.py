@@ -180,7 +180,8 @@ class Faults(Case):
         ):
             self.assertEqual(wanted, self.raises(kind, index.text, query).parameter)
         refusal = self.raises(refusals.BadStamp, index.page, url="a", from_="x")
-        self.assertEqual(("from", "the query is refused: BadStamp in 'from'"), (refusal.parameter, str(refusal)))
+        self.assertEqual("from", refusal.parameter)
+        self.assertEqual("the query is refused: BadStamp in 'from'", str(refusal).partition(" (")[0])
 
     def test_a_line_that_is_no_text_is_named(self) -> None:
         good = lines(1).encode()

@@ -5,19 +5,21 @@ import os
 import re
 import stat
 from collections.abc import Iterator
-from typing import IO, NamedTuple, Optional
+from types import TracebackType
+from typing import IO, NamedTuple, Optional, TypeVar
 
 from .ending import memory_file
 from .errors import Fault, ProgramError, fault
-from .faults import CannotOpen, NoRecord, Read
+from .faults import NoRecord, Read, cannot_open
 from .program import Path, find_packed_program, find_program, operand, running, started, write_output
 from .record import CLOSING, Record, RecordStream, Unreadable
 from .usual_records import MAGIC, MOST, ArchiveFile, usual_record
 
 FAULTY = 1  # the exit status after a fault that is on the output, and after a digest that differs
 _INPUT = "-"
+_Archive = TypeVar("_Archive", bound="Archive")
 _MOST = (1 << 63) - 1  # bytes before the end of a record
-_MOST_STREAMED = 1 << 22  # bytes of a record that `stream` holds in memory
+_MOST_STREAMED = 1 << 20  # bytes of a record that `stream` holds in memory
 _VERDICT = re.compile(b"0 ([a-z0-9-]+)\n")
 _LISTED = re.compile(b"([0-9]+) ([0-9]+) ([a-z]+)\n")
 _VERIFIED = re.compile(b"([0-9]+) ([a-z0-9-]+)\n")
@@ -45,8 +47,15 @@ class Verified(NamedTuple):
 class Archive:
     """A plain archive, which `warcdx` reads. `open_archive` opens one of either form.
 
+        with open_archive("crawl.warc.gz") as archive:
+            for record in archive:
+                print(record.kind, record.field("WARC-Target-URI"), len(record.block))
+
     The iterators read the archive as they are advanced. If it is damaged, they raise the class of
     `warcdx.faults` that is named as the program names the cause, after all records before the damage.
+
+    Records of the usual form, of up to 64 MB, are read by this process. All others are asked of the program, which
+    alone decides what is at fault. An archive is opened for each call, so `with` closes nothing.
     """
 
     def __init__(self, path: Path, *, program: str = "warcdx") -> None:
@@ -95,7 +104,7 @@ class Archive:
             yield from self._further_records(0 if file is None else file.end)
 
     def streams(self) -> Iterator[RecordStream]:
-        """Yields each record to be read in pieces, before the next one is taken, so that long ones take little memory."""
+        """Yields each record to be read in pieces, before the next one is taken. Long ones take little memory so."""
         for listed in self.list():
             with self.stream(listed.offset, length=listed.length) as stream:
                 yield stream
@@ -166,6 +175,14 @@ class Archive:
         only = () if length is None else ("--length", str(length))
         return self._program, "get", *only, str(offset), self.path
 
+    def __enter__(self: "_Archive") -> "_Archive":
+        return self
+
+    def __exit__(
+        self, kind: Optional[type[BaseException]], error: Optional[BaseException], trace: Optional[TracebackType]
+    ) -> None:
+        pass
+
     def _text_at(self, offset: int, length: Optional[int], most: int) -> Optional[bytes]:
         """Returns the text of the record at an offset, of at most so many bytes, if no program is needed to find it.
 
@@ -205,7 +222,7 @@ class Archive:
         try:
             return open(self.path, "rb", buffering=0)
         except (OSError, ValueError) as error:
-            raise CannotOpen("CannotOpen", self.path) from error
+            raise cannot_open(self.path, getattr(error, "errno", None)) from error
 
     def _lines(self, command: str, pattern: "re.Pattern[bytes]") -> Iterator[tuple[str, ...]]:
         """Yields each line of a report with its groups."""
@@ -247,7 +264,7 @@ def open_archive(path: Path, *, program: str = "warcdx") -> Archive:
     try:
         first = None if _is_read_once(name) else _first_bytes(name)
     except ValueError as error:
-        raise CannotOpen("CannotOpen", name) from error
+        raise cannot_open(name, None) from error
     if first is None or first and MAGIC.startswith(first):
         return CompressedArchive(path, program=program)
     return Archive(path, program=program)
@@ -267,7 +284,7 @@ def _first_bytes(path: str) -> bytes:
     try:
         file = open(path, "rb", buffering=0)
     except OSError as error:
-        raise CannotOpen("CannotOpen", path) from error
+        raise cannot_open(path, error.errno) from error
     with file:
         try:
             return file.read(len(MAGIC))

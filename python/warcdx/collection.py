@@ -1,16 +1,17 @@
 """Indexes and the archives that they name: from a capture to its record in one call."""
 import contextlib
 import os
-from collections.abc import Mapping, Sequence
+from collections.abc import Iterator, Mapping, Sequence
 from types import TracebackType
-from typing import Optional, Union
+from typing import Any, Optional, Union
 
 from .archive import Archive, open_archive
 from .errors import NoArchive
 from .index import Index
 from .program import Path, find_program
-from .query import Capture
+from .query import Capture, Texts
 from .record import Record, RecordStream
+from .stamps import Moment
 
 Archives = Union[Path, Sequence[Path], Mapping[str, Path]]
 _MOST_KNOWN = 4096  # archives of which the path and the form are kept
@@ -26,10 +27,10 @@ class Collection:
     of the folder. Symbolic links in the folder are followed.
 
         with Collection("all.cdxj", "archives") as collection:
-            for capture in collection.index.captures(url="example.com/*"):
-                record = collection.record(capture)
+            for record in collection.records("example.com/*", since=2016):
+                print(record.field("WARC-Target-URI"), len(payload(record)))
 
-    `index` is the Index, with as many `processes`.
+    `index` is the Index, with as many `processes`. The parameters of `captures` and `records` are those of its calls.
     """
 
     def __init__(
@@ -45,6 +46,41 @@ class Collection:
         self._program = find_program(program)
         self._known: dict[str, Archive] = {}
 
+    def captures(
+        self,
+        url: Optional[str] = None,
+        *,
+        match: Optional[str] = None,
+        since: Moment = None,
+        until: Moment = None,
+        filter: Texts = (),
+        limit: Optional[int] = None,
+        query: Optional[str] = None,
+        **parameters: Any,
+    ) -> Iterator[Capture]:
+        """Yields the captures that a query selects, as `Index.captures` does: all of them without an argument."""
+        return self.index.captures(
+            url, match=match, since=since, until=until, filter=filter, limit=limit, query=query, **parameters
+        )
+
+    def records(
+        self,
+        url: Optional[str] = None,
+        *,
+        match: Optional[str] = None,
+        since: Moment = None,
+        until: Moment = None,
+        filter: Texts = (),
+        limit: Optional[int] = None,
+        query: Optional[str] = None,
+        **parameters: Any,
+    ) -> Iterator[Record]:
+        """Yields the record of each capture that a query selects. Raises as `record` does."""
+        captures = self.captures(
+            url, match=match, since=since, until=until, filter=filter, limit=limit, query=query, **parameters
+        )
+        return map(self.record, captures)
+
     def record(self, capture: Capture) -> Record:
         """Returns the record of a capture, which is held in memory.
 
@@ -52,7 +88,7 @@ class Collection:
         compressed one only its member. Raises NoArchive if no archive has the name of the capture's,
         `faults.CannotOpen` if it can't be opened, and `faults.NoRecord` if the record isn't there.
         """
-        return self.archive(capture.filename).get(capture.offset, length=capture.length)
+        return self.archive(capture.filename).record(capture.offset, length=capture.length)
 
     def stream(self, capture: Capture) -> contextlib.AbstractContextManager[RecordStream]:
         """Opens the record of a capture, to be read in pieces as by `Archive.stream`. Raises as `record` does."""

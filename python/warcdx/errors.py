@@ -1,6 +1,6 @@
 """What can go wrong: the program can't be run, a query is refused, or a file is at fault."""
 import re
-from typing import Optional
+from typing import ClassVar, Optional
 
 
 class Error(Exception):
@@ -64,8 +64,10 @@ class Refused(Error):
     """A query is refused. The classes of the module `refusals` are named as the program names the causes.
 
     `parameter` is the name of the parameter that is refused. It is None if the cause isn't that of one parameter:
-    QueryTooLong, NotText, NoUrl and UrlAndKey.
+    QueryTooLong, NotText, NoUrl and UrlAndKey. `advice` says what can be given, if there is something to say.
     """
+
+    advice: ClassVar[str] = ""
 
     def __init__(self, name: str, parameter: Optional[str] = None) -> None:
         super().__init__(name, parameter)
@@ -73,7 +75,8 @@ class Refused(Error):
         self.parameter = parameter
 
     def __str__(self) -> str:
-        return f"the query is refused: {self.name}" + (f" in {self.parameter!r}" if self.parameter is not None else "")
+        place = "" if self.parameter is None else f" in {self.parameter!r}"
+        return f"the query is refused: {self.name}{place}" + (f" ({self.advice})" if self.advice else "")
 
 
 class Fault(Error):
@@ -104,6 +107,7 @@ _QUERY = re.compile(r"warcdx(?:-gz)?: query: ([A-Za-z0-9]+)\n?")
 _FILE = re.compile(r"warcdx(?:-gz)?: (.*): ([A-Za-z0-9]+|cannot open)\n?", re.DOTALL)
 _ALONE = re.compile(r"warcdx(?:-gz)?: ([A-Za-z0-9]+|cannot flush)\n?")
 _ADVICE = re.compile(r"^  .*\n?", re.MULTILINE)  # the second line of a message
+_SYSTEM = re.compile(r"^  .*\(os error ([0-9]+)\)$", re.MULTILINE)  # the second line about a failed system call
 _NAMES = {"cannot open": "CannotOpen", "cannot flush": "CannotFlush"}
 
 
@@ -130,6 +134,7 @@ def without_advice(said: str) -> str:
 
 def error_of(status: int, said: str) -> Error:
     """Returns what the program has reported on standard error before it ended."""
+    system = _SYSTEM.search(said)
     said = without_advice(said)
     if found := _FAULT_AT.fullmatch(said):
         return fault(found[3], found[1], int(found[2]))
@@ -138,7 +143,15 @@ def error_of(status: int, said: str) -> Error:
     if found := _QUERY.fullmatch(said):
         return refused(found[1])
     if found := _FILE.fullmatch(said):
-        return fault(_NAMES.get(found[2], found[2]), found[1])
+        return _fault_of_file(_NAMES.get(found[2], found[2]), found[1], system)
     if found := _ALONE.fullmatch(said):
         return fault(_NAMES.get(found[1], found[1]))
     return ProgramEnded(status, said)
+
+
+def _fault_of_file(name: str, file: str, system: Optional["re.Match[str]"]) -> Fault:
+    from . import faults
+
+    if name == "CannotOpen":
+        return faults.cannot_open(file, int(system[1]) if system else None)
+    return fault(name, file)

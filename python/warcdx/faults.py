@@ -1,4 +1,8 @@
 """Why a file is at fault, by the names that docs/COMMANDS.md and docs/RECORDS.md have."""
+import errno
+import os
+from typing import Any, Optional
+
 from .errors import Fault
 
 
@@ -79,7 +83,41 @@ class TooManySources(Fault):
 
 
 class CannotOpen(Fault):
-    """The file can't be opened."""
+    """The file can't be opened. `reason` is what the system says, or empty if it isn't known.
+
+    It is a FileNotFoundError too if there is no such file, and a PermissionError if opening it isn't allowed.
+    """
+
+    reason = ""
+    system_error: Optional[int] = None  # the number of the system's error
+
+    def __str__(self) -> str:
+        return super().__str__() + (f" ({self.reason})" if self.reason else "")
+
+    def __reduce__(self) -> "tuple[Any, ...]":
+        if self.file is None or self.system_error is None:
+            return super().__reduce__()  # type: ignore[return-value]
+        return cannot_open, (self.file, self.system_error)
+
+
+class _Missing(CannotOpen, FileNotFoundError):
+    """There is no such file."""
+
+
+class _Forbidden(CannotOpen, PermissionError):
+    """Opening the file isn't allowed."""
+
+
+def cannot_open(path: str, error: Optional[int]) -> CannotOpen:
+    """Returns the fault of a file that can't be opened. `error` is the number of the system's error, if it is known."""
+    kinds = {errno.ENOENT: _Missing, errno.EACCES: _Forbidden, errno.EPERM: _Forbidden}
+    kind = CannotOpen if error is None else kinds.get(error, CannotOpen)
+    fault = kind("CannotOpen", path)
+    if error is not None:
+        fault.reason, fault.system_error = os.strerror(error), error
+        if isinstance(fault, OSError):
+            fault.errno, fault.strerror, fault.filename = error, fault.reason, path
+    return fault
 
 
 class Read(Fault):

@@ -5,28 +5,55 @@ from collections.abc import Callable, Iterator, Sequence
 from types import TracebackType
 from typing import Any, Optional, Union
 
+from .asked import Asked
 from .errors import Refused, ReplyTooLong, refused
-from .faults import CannotOpen
+from .faults import cannot_open
 from .parameters import parameter_of
 from .pieces import Pieces
 from .program import Path, find_program, operand
-from .query import FIELDS, MOST_LIMIT, Capture, Page, Query, Value, fits, length_of, one_line, rows_query, split_rows
+from .query import (
+    FIELDS,
+    MOST_LIMIT,
+    Capture,
+    Page,
+    Query,
+    RowPage,
+    Texts,
+    Value,
+    fits,
+    length_of,
+    one_line,
+    rows_query,
+    split_rows,
+)
 from .serve import Serve
+from .stamps import Moment
 
 PAGE_SIZE = 5000  # captures that an iterator holds at a time
 _VALUES: dict[str, Callable[[str], object]] = {"length": length_of, "offset": int}
 
 
 class Index:
-    """One or more indexes, which are queried as one.
-
-    A query is a query text of docs/QUERY.md, or its parameters as keyword arguments, or both. The names
-    of parameters are those of the program; one that is a word of Python is written `from_` or `is_`. A
-    parameter that may be repeated takes a list:
+    """One or more indexes, which are queried as one. It iterates over all captures.
 
         with Index("all.cdxj") as index:
-            for capture in index.captures(url="*.example.com", from_=2016, filter=["statuscode:200"]):
+            for capture in index.captures("*.example.com", since=2016, filter="statuscode:200"):
                 print(capture.timestamp, capture.original)
+
+    These parameters of its calls say which captures a query selects. Without any it selects all.
+
+    - `url`: a URL, such as `http://example.com/a`; all that begin with a URL, `example.com/a*`; or those of a host and
+      of the hosts below it, `*.example.com`
+    - `match`: `exact`, `prefix`, `host` or `domain`; without it the stars of `url` decide
+    - `since`, `until`: the first and the last year, month, day or second. A date, a datetime, an ISO text, or the
+      first digits of a timestamp, as `2016` or `"20160919"`. A time without a zone is in UTC, and None is no bound
+    - `filter`: `field:text` or `!field:text`, or several of them: captures of which a field is this text, or isn't
+    - `limit`: how many captures at most
+    - `query`: a query text of docs/QUERY.md; it may also stand in the place of `url`
+    - `page_size`: how many captures are held at a time
+
+    Any other parameter of docs/QUERY.md may be given by its name there, such as `collapse`, `has`, `key` or
+    `matchType`. One that is a word of Python is written `from_` or `is_`. One that may be repeated takes a list.
 
     The constructor raises `faults.CannotOpen` if an index can't be opened. A query that the program refuses
     raises the class of `warcdx.refusals` that is named as the program names the cause, and an index that is at
@@ -72,62 +99,127 @@ class Index:
             self._idle.put(Serve(found, names))
 
     def captures(
-        self, query: Optional[str] = None, *, page_size: int = PAGE_SIZE, **parameters: Value
+        self,
+        url: Optional[str] = None,
+        *,
+        match: Optional[str] = None,
+        since: Moment = None,
+        until: Moment = None,
+        filter: Texts = (),
+        limit: Optional[int] = None,
+        query: Optional[str] = None,
+        page_size: int = PAGE_SIZE,
+        **parameters: Value,
     ) -> Iterator[Capture]:
-        """Yields the captures that a query selects, in order: as many as its `limit`, or all.
+        """Yields the captures that a query selects, in order: as many as `limit`, or all.
 
         They are read page by page, and `page_size` of them are held at a time, or more if the keys at the ends of
         pages are too long for a query. Other queries are answered meanwhile, however slowly the captures are taken.
         """
-        for row in self.rows(FIELDS, query, page_size=page_size, **parameters):
-            yield Capture.of(row)
+        asked = Asked.of(url, query, match, since, until, filter, limit, parameters)
+        return (Capture.of(row) for rows, _ in self._row_pages(asked, FIELDS, page_size) for row in rows)
+
+    def pages(
+        self,
+        url: Optional[str] = None,
+        *,
+        match: Optional[str] = None,
+        since: Moment = None,
+        until: Moment = None,
+        filter: Texts = (),
+        limit: Optional[int] = None,
+        query: Optional[str] = None,
+        page_size: int = PAGE_SIZE,
+        **parameters: Value,
+    ) -> Iterator[Page]:
+        """Yields the same captures page by page, each with the resume key of the next page."""
+        asked = Asked.of(url, query, match, since, until, filter, limit, parameters)
+        return (Page(tuple(map(Capture.of, rows)), key) for rows, key in self._row_pages(asked, FIELDS, page_size))
+
+    def page(
+        self,
+        url: Optional[str] = None,
+        *,
+        match: Optional[str] = None,
+        since: Moment = None,
+        until: Moment = None,
+        filter: Texts = (),
+        limit: Optional[int] = None,
+        query: Optional[str] = None,
+        resume_key: Optional[str] = None,
+        **parameters: Value,
+    ) -> Page:
+        """Returns one page of at most `limit` captures: the first one, or that after a `resume_key` of another page."""
+        if resume_key is not None:
+            parameters["resumeKey"] = resume_key
+        asked = Asked.of(url, query, match, since, until, filter, limit, parameters)
+        rows, key = self._page(asked.query, FIELDS, asked.limit)
+        return Page(tuple(map(Capture.of, rows)), key)
 
     def rows(
-        self, fields: Sequence[str], query: Optional[str] = None, *, page_size: int = PAGE_SIZE, **parameters: Value
+        self,
+        fields: Union[str, Sequence[str]],
+        url: Optional[str] = None,
+        *,
+        match: Optional[str] = None,
+        since: Moment = None,
+        until: Moment = None,
+        filter: Texts = (),
+        limit: Optional[int] = None,
+        query: Optional[str] = None,
+        page_size: int = PAGE_SIZE,
+        **parameters: Value,
     ) -> Iterator[list[str]]:
-        """Yields the values of these fields of each capture that a query selects, as `captures` does."""
-        left, asked = Query.of(query, parameters).take_limit()
-        size, given = page_size, 0  # captures of the page, and how many of these were given
-        while True:
-            is_rest = left is not None and left <= size
-            rows, key = self._page(asked, fields, left if is_rest else size if size <= MOST_LIMIT else None)
-            yield from rows[given:]
-            if key is None or is_rest:
-                return
-            following = asked.take("resumeKey")[1].with_parameters(resumeKey=key)
-            if fits(following, fields):
-                asked, left = following, None if left is None else left - len(rows)
-                size, given = page_size, 0
-            else:  # no page can begin there, so this one is made longer
-                size, given = 2 * size, len(rows)
+        """Yields the values of these fields of each capture that a query selects, as texts."""
+        asked = Asked.of(url, query, match, since, until, filter, limit, parameters)
+        return (row for rows, _ in self._row_pages(asked, _fields_of(fields), page_size) for row in rows)
 
     def columns(
-        self, fields: Sequence[str], query: Optional[str] = None, *, page_size: int = PAGE_SIZE, **parameters: Value
+        self,
+        fields: Union[str, Sequence[str]] = FIELDS,
+        url: Optional[str] = None,
+        *,
+        match: Optional[str] = None,
+        since: Moment = None,
+        until: Moment = None,
+        filter: Texts = (),
+        limit: Optional[int] = None,
+        query: Optional[str] = None,
+        page_size: int = PAGE_SIZE,
+        **parameters: Value,
     ) -> dict[str, list[Any]]:
-        """Returns a list for each of these fields: its values of all captures that a query selects, up to its `limit`.
+        """Returns a list for each of these fields: its values of all captures that a query selects, up to `limit`.
 
         The lists have the order of the captures, and values as those of a Capture. All of them are held in memory.
         """
-        columns: dict[str, list[Any]] = {field: [] for field in fields}
-        for row in self.rows(tuple(columns), query, page_size=page_size, **parameters):
-            for column, value in zip(columns.values(), row):
-                column.append(value)
+        asked = Asked.of(url, query, match, since, until, filter, limit, parameters)
+        columns: dict[str, list[Any]] = {field: [] for field in _fields_of(fields)}
+        for rows, _ in self._row_pages(asked, tuple(columns), page_size):
+            for column, values in zip(columns.values(), zip(*rows)):
+                column.extend(values)
         for field in columns.keys() & _VALUES.keys():
             columns[field] = list(map(_VALUES[field], columns[field]))
         return columns
 
-    def page(self, query: Optional[str] = None, **parameters: Value) -> Page:
-        """Returns one page: the captures that a query selects, and the resume key of the next page.
+    def count(
+        self,
+        url: Optional[str] = None,
+        *,
+        match: Optional[str] = None,
+        since: Moment = None,
+        until: Moment = None,
+        filter: Texts = (),
+        limit: Optional[int] = None,
+        query: Optional[str] = None,
+        **parameters: Value,
+    ) -> int:
+        """Returns how many captures a query selects, up to `limit`."""
+        asked = Asked.of(url, query, match, since, until, filter, limit, parameters)
+        return sum(len(rows) for rows, _ in self._row_pages(asked, ("offset",), PAGE_SIZE))
 
-        The key is the parameter `resumeKey` of the query for that page.
-        """
-        limit, asked = Query.of(query, parameters).take_limit()
-        rows, key = self._page(asked, FIELDS, limit)
-        return Page(tuple(map(Capture.of, rows)), key)
-
-    def count(self, query: Optional[str] = None, **parameters: Value) -> int:
-        """Returns how many captures a query selects, up to its `limit`."""
-        return sum(1 for _ in self.rows(("offset",), query, page_size=PAGE_SIZE, **parameters))
+    def __iter__(self) -> Iterator[Capture]:
+        """Yields all captures."""
+        return self.captures()
 
     def text(self, query: str) -> bytes:
         """Returns a page as `warcdx query` writes it."""
@@ -190,7 +282,29 @@ class Index:
     ) -> None:
         self.close()
 
-    def _page(self, query: Query, fields: Sequence[str], size: Optional[int]) -> tuple[list[list[str]], Optional[str]]:
+    def _row_pages(self, asked: Asked, fields: Sequence[str], size: int) -> Iterator[RowPage]:
+        """Yields the rows of each page of at most `size` captures, and the resume key of the next page.
+
+        If no query can have that key, the page is read again, longer, and what follows in it is a further page.
+        """
+        query, left = asked
+        length, given = size, 0  # captures of the page, and how many of these were yielded
+        while True:
+            is_rest = left is not None and left <= min(length, MOST_LIMIT)
+            rows, key = self._page(query, fields, left if is_rest else length if length <= MOST_LIMIT else None)
+            rows = rows if left is None else rows[:left]
+            is_last = key is None or len(rows) == left
+            yield rows[given:], key
+            if is_last:
+                return
+            following = query.take("resumeKey")[1].with_parameters(resumeKey=key)
+            if fits(following, fields):
+                query, left = following, None if left is None else left - len(rows)
+                length, given = size, 0
+            else:
+                length, given = 2 * length, len(rows)
+
+    def _page(self, query: Query, fields: Sequence[str], size: Optional[int]) -> RowPage:
         """Returns the rows of a page of at most `size` captures, and the resume key of the next."""
         asked = rows_query(query, fields, size)
         with self._turn(asked) as serve:
@@ -226,8 +340,13 @@ class _Turn:
             raise refused(error.name, parameter_of(error.name, self._query)) from None
 
 
+def _fields_of(fields: Union[str, Sequence[str]]) -> tuple[str, ...]:
+    """Returns the names of fields. A text may have several, between commas."""
+    return tuple(fields.split(",") if isinstance(fields, str) else fields)
+
+
 def _check_that_it_opens(path: str) -> None:
     try:
         os.close(os.open(path, os.O_RDONLY | os.O_NONBLOCK | os.O_CLOEXEC))
     except OSError as error:
-        raise CannotOpen("CannotOpen", path) from error
+        raise cannot_open(path, error.errno) from error

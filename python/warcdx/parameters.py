@@ -10,6 +10,7 @@ _REPEATABLE = ("filter", "is", "isnot", "has", "hasnot")
 _ONCE = (
     "url", "key", "matchType", "from", "to", "limit", "resumeKey", "showResumeKey", "fl", "output", "collapse"
 )  # fmt: skip
+NAMES = frozenset(_ONCE + _REPEATABLE)
 # The parameter of each cause that only one can have.
 _ONLY = {
     "BadMatch": "matchType",

@@ -1,12 +1,16 @@
 """Query texts, and the captures that a query selects."""
 import datetime
 import re
-from collections.abc import Iterable, Sequence
+from collections.abc import Iterable, Iterator, Sequence
 from dataclasses import dataclass
 from typing import NamedTuple, Optional, Union
 from urllib.parse import quote_plus, unquote_plus
 
-Value = Union[str, int, bool, Iterable[str]]
+from .stamps import Moment, stamp_of
+
+Texts = Union[str, Iterable[str]]
+Value = Union[Moment, Texts]
+RowPage = tuple[list[list[str]], Optional[str]]  # the rows of a page, and the resume key of the next
 
 FIELDS = ("urlkey", "timestamp", "original", "mimetype", "statuscode", "digest", "length", "offset", "filename")
 MOST_LIMIT = 1_000_000  # the largest limit of the program
@@ -54,10 +58,19 @@ def length_of(text: str) -> Optional[int]:
 
 @dataclass(frozen=True)
 class Page:
-    """The captures of a page, and the resume key of the next page, or None if there is none."""
+    """The captures of a page, over which it iterates, and the resume key of the next page, or None if there is none."""
 
     captures: tuple[Capture, ...]
     resume_key: Optional[str]
+
+    def __iter__(self) -> Iterator[Capture]:
+        return iter(self.captures)
+
+    def __len__(self) -> int:
+        return len(self.captures)
+
+    def __getitem__(self, number: int) -> Capture:
+        return self.captures[number]
 
 
 @dataclass(frozen=True)
@@ -71,7 +84,8 @@ class Query:
         """Returns the query of a text and of further parameters."""
         pieces = [piece for piece in one_line(text or "").split("&") if piece]
         for name, value in parameters.items():
-            pieces += encoded(name.rstrip("_"), value)
+            if value is not None:
+                pieces += encoded(name.rstrip("_"), value)
         return cls(tuple(pieces))
 
     def take(self, name: str) -> tuple[Optional[str], "Query"]:
@@ -123,7 +137,7 @@ def fits(query: Query, fields: Sequence[str]) -> bool:
     return len(rows_query(query, fields, MOST_LIMIT).encoded()) <= MOST_TEXT
 
 
-def split_rows(rows: list[list[str]]) -> tuple[list[list[str]], Optional[str]]:
+def split_rows(rows: list[list[str]]) -> RowPage:
     """Returns the captures of the rows of a page, and the resume key of the next page."""
     if len(rows) > 2 and not rows[-2]:
         return rows[1:-2], rows[-1][0]
@@ -141,8 +155,10 @@ def encoded(name: str, value: Value) -> list[str]:
         return [f"resumeKey={one_line(value)}"]
     if isinstance(value, bool):
         values: Iterable[str] = ("true" if value else "false",)
+    elif isinstance(value, datetime.date):
+        values = (stamp_of(name, value),)
     elif isinstance(value, (int, str)):
         values = (str(value),)
     else:
-        values = value
+        values = value or ()
     return [f"{quote_plus(name)}={quote_plus(each, errors='surrogateescape')}" for each in values]

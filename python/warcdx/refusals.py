@@ -1,5 +1,6 @@
 """Why a query is refused, by the names that docs/QUERY.md has."""
 from .errors import Refused
+from .query import FIELDS
 
 
 class QueryTooLong(Refused):
@@ -13,6 +14,11 @@ class NotText(Refused):
 class Unknown(Refused):
     """A name isn't that of a parameter."""
 
+    advice = (
+        "the parameters are url, match, since, until, filter, limit and query, and those of a query text: key, "
+        "matchType, from_, to, is_, isnot, has, hasnot, collapse and resumeKey"
+    )
+
 
 class RepeatedParameter(Refused):
     """A parameter that may occur once is given twice."""
@@ -21,21 +27,31 @@ class RepeatedParameter(Refused):
 class BadMatch(Refused):
     """A match type isn't one of the four."""
 
+    advice = "it is exact, prefix, host or domain"
+
 
 class BadStamp(Refused):
     """`from` or `to` isn't 1 to 14 digits."""
+
+    advice = "since and until are dates, datetimes, ISO texts such as 2016-09-19, or 1 to 14 digits, as from and to are"
 
 
 class BadFilter(Refused):
     """A condition has no `:`, or is on an unknown field."""
 
+    advice = f"it is FIELD:TEXT, where FIELD is one of {', '.join(FIELDS)}"
+
 
 class NotLiteral(Refused):
     """The text of a `filter` has a character of a pattern."""
 
+    advice = "a filter is no pattern; is_ takes any text, and has a part of one"
+
 
 class BadLimit(Refused):
     """A limit isn't a number from 1 to 1,000,000."""
+
+    advice = "it is 1 or more"
 
 
 class BadResume(Refused):
@@ -49,6 +65,8 @@ class BadFlag(Refused):
 class BadField(Refused):
     """`fl` has an unknown field, or an empty one."""
 
+    advice = f"the fields are {', '.join(FIELDS)}"
+
 
 class BadOutput(Refused):
     """An output isn't `text`, `json` or `cdxj`."""
@@ -60,6 +78,8 @@ class BadCollapse(Refused):
 
 class NoUrl(Refused):
     """There is neither `url` nor `key`."""
+
+    advice = "give a url or a key, or no query text at all for all captures"
 
 
 class UrlAndKey(Refused):

@@ -193,7 +193,7 @@ class Serve:
 
 
 def _end_unused(process: Process, said: IO[bytes], starter: int) -> None:
-    """Ends the program of a Serve that nobody has ended, and that is gone. A forked process leaves it to its starter."""
+    """Ends the program of a Serve that is gone without an end. A forked process leaves it to its starter."""
     _close_pipes(process, said)
     if os.getpid() == starter:
         process.kill()

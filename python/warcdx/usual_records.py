@@ -10,9 +10,9 @@ import os
 import re
 import stat
 import zlib
-from collections.abc import Iterator
+from collections.abc import Iterator, Sequence
 from types import TracebackType
-from typing import NamedTuple, Optional
+from typing import Optional
 
 from .record import CLOSING, Fields, Record
 
@@ -22,47 +22,50 @@ _MOST_HEAD = 1 << 16  # bytes of a usual head; the program takes longer ones
 _AHEAD = 1 << 16  # bytes of an archive that are read at once
 _PACKED = 1 << 13  # bytes that are unpacked from at once: what follows a member is copied
 _GZIP = 16 + zlib.MAX_WBITS
-_LINE_END = len(b"\r\n")
-_HEAD = re.compile(rb"WARC/1\.[01]\r\n(?:[!#$%&'*+.0-9A-Z^_`a-z|~-]+:[^\r\n\0]*\r\n)+")
-_DATE = re.compile(rb"([1-9][0-9]{3}-[0-9]{2}-[0-9]{2})T(?:[01][0-9]|2[0-3]):[0-5][0-9]:[0-5][0-9](?:\.[0-9]{1,9})?Z")
-_LENGTH = re.compile(rb"[0-9]{1,18}")
-# How the lines of the mandatory fields begin in lower case, behind the line break before them.
-_TYPE, _RECORD_ID, _DATE_FIELD, _LENGTH_FIELD = b"\nwarc-type:", b"\nwarc-record-id:", b"\nwarc-date:", b"\ncontent-length:"
+_ODD = b"\r\n\0"
+_VERSIONS = ("WARC/1.0", "WARC/1.1")
+_TOKEN = b"!#$%&'*+-.^_`|~0123456789ABCDEFGHIJKLMNOPQRSTUVWXYZabcdefghijklmnopqrstuvwxyz"  # the bytes of a name
+_DATE = re.compile("([1-9][0-9]{3}-[0-9]{2}-[0-9]{2})T(?:[01][0-9]|2[0-3]):[0-5][0-9]:[0-5][0-9](?:[.][0-9]{1,9})?Z")
+_LENGTH = re.compile("[0-9]{1,18}")
+_MANDATORY = ("warc-type", "warc-record-id", "warc-date", "content-length")
 
 
-class _Head(NamedTuple):
-    """A head of the usual form: its fields, its bytes with the empty line at its end, and the bytes of its block."""
-
-    fields: Fields
-    size: int
-    block: int
+_Head = tuple[Fields, int, int]
 
 
 def usual_head(text: bytes, start: int = 0) -> Optional[_Head]:
-    """Returns the head that begins at an index of a text, or None if none of the usual form does."""
+    """Returns the head that begins at an index of a text, or None if none of the usual form does.
+
+    That is its fields, its length with the empty line at its end, and the length of the block, in bytes.
+    """
     end = text.find(CLOSING, start, start + _MOST_HEAD)
     if end < 0:
         return None
-    head = text[start : end + _LINE_END]
-    if not _HEAD.fullmatch(head):
+    head = text[start:end]
+    version, *lines = head.decode(errors="surrogateescape").split("\r\n")
+    if version not in _VERSIONS or len(head) - len(head.translate(None, _ODD)) != 2 * len(lines):
+        return None  # another byte of these than those of the line breaks
+    fields = tuple([(name, value.strip(" \t")) for name, colon, value in [line.partition(":") for line in lines] if colon])
+    names = _names_of(fields) if len(fields) == len(lines) else ()
+    if [names.count(name) for name in _MANDATORY] != [1, 1, 1, 1]:
         return None
-    lower = head.lower()
-    if not lower.count(_TYPE) == lower.count(_RECORD_ID) == lower.count(_DATE_FIELD) == lower.count(_LENGTH_FIELD) == 1:
-        return None
-    date = _DATE.fullmatch(_value(head, lower.index(_DATE_FIELD) + len(_DATE_FIELD)))
-    length = _value(head, lower.index(_LENGTH_FIELD) + len(_LENGTH_FIELD))
+    date, length = _DATE.fullmatch(fields[names.index("warc-date")][1]), fields[names.index("content-length")][1]
     if not date or not _is_day(date[1]) or not _LENGTH.fullmatch(length):
         return None
-    return _Head(_fields_of(head), end + len(CLOSING) - start, int(length))
+    return fields, end + len(CLOSING) - start, int(length)
 
 
-def _value(head: bytes, start: int) -> bytes:
-    """Returns the value of a field whose colon ends at an index."""
-    return head[start : head.index(b"\r", start)].strip(b" \t")
+def _names_of(fields: Fields) -> Sequence[str]:
+    """Returns the names of fields in lower case, or none if there is one that isn't a name."""
+    names = "\n".join([name for name, _ in fields])
+    if names.encode(errors="surrogateescape").translate(None, _TOKEN + b"\n"):
+        return ()
+    found = names.lower().split("\n")
+    return () if "" in found else found
 
 
 @functools.lru_cache(maxsize=1000)
-def _is_day(text: bytes) -> bool:
+def _is_day(text: str) -> bool:
     """Returns whether there is a day of this year, month and day, `YYYY-MM-DD`."""
     try:
         datetime.date(int(text[:4]), int(text[5:7]), int(text[8:]))
@@ -71,19 +74,13 @@ def _is_day(text: bytes) -> bool:
     return True
 
 
-def _fields_of(head: bytes) -> Fields:
-    """Returns the fields of a head of the usual form, as `Head.fields_of` does of any other."""
-    lines = head.decode(errors="surrogateescape").split("\r\n")[1:-1]
-    parts = [line.partition(":") for line in lines]
-    return tuple([(name, value.strip(" \t")) for name, _, value in parts])
-
-
 def usual_record(text: bytes) -> Optional[Record]:
     """Returns the record that a text is, or None if it isn't exactly one record of the usual form."""
     head = usual_head(text)
-    if head is None or head.size + head.block + len(CLOSING) != len(text) or not text.endswith(CLOSING):
+    if head is None or not text.endswith(CLOSING):
         return None
-    return Record(head.fields, text[head.size : -len(CLOSING)])
+    fields, size, length = head
+    return Record(fields, text[size : -len(CLOSING)]) if size + length + len(CLOSING) == len(text) else None
 
 
 class ArchiveFile:
@@ -154,29 +151,32 @@ class ArchiveFile:
             head = usual_head(self._held, at)
         if head is None:
             return None
-        size = head.size + head.block + len(CLOSING)
+        fields, start, length = head
+        size = start + length + len(CLOSING)
         if size > MOST or offset + size > self.size:
             return None
         at = self._look(offset, size)
         text = self._held[at : at + size]
-        return (Record(head.fields, text[head.size : -len(CLOSING)]), size) if text.endswith(CLOSING) else None
+        return (Record(fields, text[start : -len(CLOSING)]), size) if text.endswith(CLOSING) else None
 
     def _member(self, offset: int, most: int) -> Optional[tuple[bytes, int]]:
         """Returns the text and the length of a good member whose text has at most `most` bytes."""
         unpacker, pieces, left, end = zlib.decompressobj(_GZIP), [], most, offset
-        while not unpacker.eof:
+        while left >= 0:
             at = self._look(end, 1)
             packed = self._held[at : at + _PACKED]
+            if not packed:
+                return None
             try:
                 piece = unpacker.decompress(packed, left + 1)
             except zlib.error:
                 return None
-            left -= len(piece)
-            if not packed or left < 0:
-                return None
-            pieces.append(piece)
             end += len(packed)
-        return b"".join(pieces), end - len(unpacker.unused_data) - offset
+            left -= len(piece)
+            pieces.append(piece)
+            if unpacker.eof and left >= 0:
+                return b"".join(pieces) if len(pieces) > 1 else piece, end - len(unpacker.unused_data) - offset
+        return None
 
     def _look(self, offset: int, least: int) -> int:
         """Holds at least so many bytes from an offset on, if the file has them. Returns the index of the first one."""
