@@ -89,6 +89,7 @@ def build_program_wheel(folder: str, programs: pathlib.Path, library: str) -> st
 
 
 def modules() -> Iterator[File]:
+    yield File("warcdx_start.py", (HERE / "warcdx_start.py").read_bytes())
     for path in sorted((HERE / "warcdx").iterdir()):
         if path.suffix == ".py" or path.name == "py.typed":
             yield File(f"warcdx/{path.name}", path.read_bytes())

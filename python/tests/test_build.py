@@ -40,8 +40,8 @@ class Build(Case):
 
     def test_the_files_of_a_wheel(self) -> None:
         wheel = self.wheel()
-        modules = sorted(name for name in wheel.namelist() if name.startswith("warcdx/"))
-        self.assertEqual(sorted([*(f"warcdx/{name}" for name in MODULES), "warcdx/py.typed"]), modules)
+        modules = sorted(name for name in wheel.namelist() if name.startswith("warcdx/") or name == "warcdx_start.py")
+        self.assertEqual(sorted([*(f"warcdx/{name}" for name in MODULES), "warcdx/py.typed", "warcdx_start.py"]), modules)
         for name in COMMANDS:
             script = f"warcdx-{VERSION}.data/scripts/{name}"
             self.assertTrue(wheel.read(script).startswith(b"#!python\n"), name)

@@ -1,5 +1,4 @@
 """How a signal ends a command, and a lack of memory."""
-import dis
 import os
 import pathlib
 import shutil
@@ -7,16 +6,14 @@ import signal
 import subprocess
 import sys
 import unittest
-from collections.abc import Iterator
-from types import CodeType
+import warcdx_start
 
 from .support import WAIT, Case
 
-INSTRUCTION = 2  # bytes
 BEGINS = """
-import contextlib, os, signal, sys, time
+import os, signal, sys, time
 from warcdx.command import run
-from warcdx.ending import deferred
+from warcdx.ending import blocked
 from warcdx.temporary import temporary_folder
 
 def work(output):
@@ -35,29 +32,35 @@ FINALIZER = """
     dying = Dying()
     del dying
 """
-DEFERRED = """
-    class Dying:
-        def __del__(self):
-            os.kill(os.getpid(), signal.SIGTERM)
-            time.sleep(0.01)
-    dying = Dying()
+FOLDER = """
     with temporary_folder() as folder:
         (folder / "file").touch()
-        del dying
-        with deferred():
-            time.sleep(0.1)
-        time.sleep(WAIT)
+        print(folder, flush=True)
+        with blocked():
+            os.kill(os.getpid(), signal.SIGTERM)
+            time.sleep(0.01)
+            print("blocked", flush=True)
+        print("not blocked", flush=True)
 """
 
 
-class Signals(unittest.TestCase):
+class Signals(Case):
+    def ended(self, text: str) -> tuple[int, list[str], bytes]:
+        """Returns how a command ends, and what it has written."""
+        folder = pathlib.Path(__file__).resolve().parents[1]
+        command = (sys.executable, "-c", BEGINS + text + ENDS)
+        environment = {**os.environ, "TMPDIR": str(self.folder)}
+        done = subprocess.run(command, cwd=folder, env=environment, capture_output=True, timeout=WAIT)
+        return done.returncode, done.stdout.decode().splitlines(), done.stderr
+
     def test_a_signal_that_comes_in_a_finalizer_ends_the_command(self) -> None:
         """Python ignores what a finalizer raises, and prints it."""
-        for text in (FINALIZER, DEFERRED.replace("WAIT", str(WAIT))):
-            folder = pathlib.Path(__file__).resolve().parents[1]
-            command = (sys.executable, "-c", BEGINS + text + ENDS)
-            done = subprocess.run(command, cwd=folder, stderr=subprocess.PIPE, timeout=WAIT)
-            self.assertEqual((-signal.SIGTERM, b""), (done.returncode, done.stderr))
+        self.assertEqual((-signal.SIGTERM, [], b""), self.ended(FINALIZER))
+
+    def test_a_signal_that_is_blocked_comes_after_the_block(self) -> None:
+        status, (_, *lines), error = self.ended(FOLDER)
+        self.assertEqual((-signal.SIGTERM, ["blocked"], b""), (status, lines, error))
+        self.assertEqual([], list(self.folder.iterdir()))
 
 
 class ByteCode(Case):
@@ -95,28 +98,7 @@ class Modules(unittest.TestCase):
         for path in (folder / "bin").iterdir():
             command = ("/usr/bin/python3", "-S", "-c", GROWTH, f"warcdx.{path.name[7:]}_command")
             grown = int(subprocess.run(command, env=environment, stdout=subprocess.PIPE, check=True).stdout)
-            stated = next(line for line in path.read_text().splitlines() if line.startswith("MODULES = "))
-            self.assertLessEqual(grown, eval(stated.partition("=")[2]), path.name)
-
-
-@unittest.skipUnless(hasattr(dis, "_parse_exception_table"), "this Python has no tables of exception handlers")
-class Memory(unittest.TestCase):
-    def test_no_block_is_far_from_the_start_of_its_function(self) -> None:
-        """If there is no memory for a number over 256, Python 3.11 repeats the step for ever that handles an exception there."""
-        folder = pathlib.Path(__file__).resolve().parents[1]
-        paths = (*folder.glob("warcdx/*.py"), *folder.glob("bin/*"), folder.parent / "gateway/bin/warcdx-gateway")
-        for path in filter(pathlib.Path.exists, paths):
-            for code in codes_of(compile(path.read_bytes(), path, "exec")):
-                table = dis._parse_exception_table(code)  # type: ignore[attr-defined]
-                ends = [entry.end // INSTRUCTION for entry in table if entry.lasti]
-                self.assertLess(max(ends, default=0), 257, f"{path.name}, {code.co_name}")
-
-
-def codes_of(code: CodeType) -> Iterator[CodeType]:
-    yield code
-    for constant in code.co_consts:
-        if isinstance(constant, CodeType):
-            yield from codes_of(constant)
+            self.assertLessEqual(grown, warcdx_start.MODULES, path.name)
 
 
 if __name__ == "__main__":

@@ -1,6 +1,7 @@
 """CDX files of eleven and of nine columns, which are read and written as docs/CDX.md says."""
 import json
 import re
+import tempfile
 from collections.abc import Iterable, Iterator, Sequence
 from typing import IO, NamedTuple, Optional
 
@@ -8,7 +9,6 @@ from .codings import Unreadable
 from .merging import MOST, merge
 from .program import Path, find_program, operand, running
 from .streams import whole
-from .temporary import temporary_file
 from .url_keys import MOST_URL, Keyed, keys_of
 
 HEADER = b" CDX N b a m s k r M S V g\n"
@@ -48,7 +48,7 @@ def write_cdx(indexes: Sequence[Path], output: IO[bytes], program: str) -> None:
     """
     output = whole(output)
     if len(indexes) > MOST:
-        with temporary_file() as merged:
+        with tempfile.TemporaryFile() as merged:
             merge(indexes, merged, program=program)
             merged.seek(0)
             count, is_whole = _write_lines(merged, output)

@@ -5,70 +5,19 @@ import io
 import json
 import os
 import pathlib
-import signal
 import sys
 import threading
 from collections.abc import Callable, Sequence
-from types import FrameType
 from typing import BinaryIO, NoReturn, Optional
 
 from .ending import Ended as Ended
-from .ending import ending, reserve
+from .ending import catch_signals, end_by
 from .streams import OutputError as OutputError
 from .streams import open_closed_streams, replace_standard_streams, write_error
 
 USAGE = 2  # the exit status after a usage error
 FAILED = 3  # the exit status if a file, memory, the output or a program failed
 NO_THREAD = "can't start new thread"  # the message of a RuntimeError if there is no memory for a thread
-_AGAIN = 0.001  # seconds
-_TICK = 1.0  # seconds
-
-
-class _Signals:
-    """The signals that end a command."""
-
-    def __init__(self) -> None:
-        self._is_lost = False  # whether Ended was raised where Python ignores it
-
-    def catch(self) -> None:
-        """Handles the signals that aren't ignored."""
-        for number in (signal.SIGINT, signal.SIGTERM, signal.SIGHUP):
-            if signal.getsignal(number) is not signal.SIG_IGN:
-                signal.signal(number, self._handle)
-        # If the starter ignores it, so would the command, and the system would keep no status of a program that ends.
-        signal.signal(signal.SIGCHLD, signal.SIG_DFL)
-        signal.signal(signal.SIGALRM, self._handle_alarm)
-        # Python handles a signal that comes just before a system call only after the call. Each tick ends one that waits.
-        signal.setitimer(signal.ITIMER_REAL, _TICK, _TICK)
-        sys.unraisablehook = self._handle_unraisable
-
-    def end(self) -> None:
-        """Ends the process by the signal that was handled, if any was."""
-        signal.setitimer(signal.ITIMER_REAL, 0)
-        if ending.number is not None:
-            signal.signal(ending.number, signal.SIG_DFL)
-            os.kill(os.getpid(), ending.number)
-
-    def _handle(self, number: int, frame: Optional[FrameType]) -> None:
-        ending.begin(number)
-
-    def _handle_unraisable(self, arguments: "sys.UnraisableHookArgs") -> None:
-        """Handles an exception in a finalizer, which ends there. Ended is raised again, a little later."""
-        if issubclass(arguments.exc_type, Ended):
-            self._is_lost = True
-            signal.setitimer(signal.ITIMER_REAL, _AGAIN, _TICK)
-        else:
-            sys.__unraisablehook__(arguments)
-
-    def _handle_alarm(self, number: int, frame: Optional[FrameType]) -> None:
-        if self._is_lost and ending.is_deferred:
-            signal.setitimer(signal.ITIMER_REAL, _AGAIN, _TICK)
-        elif self._is_lost:
-            self._is_lost = False
-            ending.raise_ended()
-
-
-_signals = _Signals()
 
 
 class Parser(argparse.ArgumentParser):
@@ -101,12 +50,11 @@ class Parser(argparse.ArgumentParser):
 def use_utf8() -> None:
     """Starts the command anew with file names in UTF-8, as the program has them, if those of the locale are others.
 
-    Nothing is done yet but that signals are handled. A script that comes from standard input isn't started anew.
+    Nothing is done yet. A script that comes from standard input isn't started anew.
     """
     if sys.getfilesystemencoding() == "utf-8" or not sys.executable or sys.argv[0] in ("", "-"):
         return
     words = pathlib.Path("/proc/self/cmdline").read_bytes().split(b"\0")[1:-1]
-    signal.setitimer(signal.ITIMER_REAL, 0)  # which would end the new program before it handles the signal
     os.execv(sys.executable, (os.fsencode(sys.executable), b"-X", b"utf8", *words))
 
 
@@ -126,42 +74,34 @@ def run(name: str, work: Callable[[BinaryIO], int]) -> int:
     used. INT, TERM and HUP end the process as they do by default, after what `work` has made is removed and its
     programs are ended.
     """
-    no_memory = _message(name, "Memory")
+    said = no_memory = _message(name, "Memory")
     try:
-        reserve.fill()
-        status, said = _run_on_standard_streams(name, work)
+        return _run_on_standard_streams(work)
+    except Ended as ended:
+        end_by(ended)
+    except (OSError, RuntimeError) as error:
+        said = _message(name, _failure_of(error))
     except (MemoryError, SystemError):  # SystemError: Python's own code had no memory for an exception
-        status, said = FAILED, no_memory
-    # What the exceptions held is free, so that there is memory to say so.
+        said = no_memory
+    # What the exception held is free, so that there is memory to say so.
     write_error(said)
-    _signals.end()
-    return status
+    return FAILED
 
 
-def _run_on_standard_streams(name: str, work: Callable[[BinaryIO], int]) -> tuple[int, bytes]:
-    """Returns the exit status, and what is to be written to standard error."""
+def _run_on_standard_streams(work: Callable[[BinaryIO], int]) -> int:
     open_closed_streams()
-    _signals.catch()
+    catch_signals()
     threading.excepthook = _end_of_thread
     output = replace_standard_streams()
     try:
-        return _work_and_flush(work, output), b""
-    except Ended:
-        return FAILED, b""
-    except (OSError, RuntimeError) as error:
-        return FAILED, _message(name, _failure_of(error))
-    finally:
-        _close(output)
-
-
-def _work_and_flush(work: Callable[[BinaryIO], int], output: io.BufferedWriter) -> int:
-    with ending.raising():
         try:
             status = work(output)
         except SystemExit as end:
             status = end.code if isinstance(end.code, int) else 0
         output.flush()
-    return status
+        return status
+    finally:
+        _close(output)
 
 
 def _failure_of(error: "OSError | RuntimeError") -> str:

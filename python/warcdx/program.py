@@ -14,9 +14,10 @@ import time
 from collections.abc import Callable, Iterator
 from typing import IO, Any, Optional, Union
 
-from .ending import deferred, memory_file, reserve
+from .ending import blocked
 from .errors import NO_STATUS, Error, Fault, ProgramMissing, ProgramTooOld, ReplyTooLate, error_of
 from .streams import whole
+from .temporary import memory_file
 
 Path = Union[str, os.PathLike[str]]
 
@@ -159,19 +160,15 @@ def started(
     before: Optional[Callable[[], None]] = None,
 ) -> Iterator[Process]:
     """Starts the program as `start` does, and ends it at the end of the block, also if a signal ends the command."""
-    process = None
+    process = start(command, said, stdin, stdout, before)
     try:
-        with reserve:
-            with deferred():
-                process = start(command, said, stdin, stdout, before)
-            yield process
+        yield process
     finally:
-        if process is not None:
-            _end(process)
+        _end(process)
 
 
 def _end(process: Process) -> None:
-    with deferred():
+    with blocked():
         process.kill()
         process.wait()
         for pipe in (process.stdin, process.stdout):

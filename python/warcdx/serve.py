@@ -8,10 +8,10 @@ import weakref
 from collections.abc import Callable, Generator, Iterator
 from typing import IO, Optional
 
-from .ending import open_memory_file
 from .errors import NO_STATUS, Error, ProgramEnded, ProgramError, ReplyTooLate, ReplyTooLong
 from .program import Process, end_of, start
 from .reply import END, MARK, NOTHING, PIECE, is_whole, refusal_of, rows_of, text_of
+from .temporary import memory_file
 
 PATIENCE = 10  # seconds for the program to end
 TAIL = 256  # bytes that hold the end of a reply, and the line of a fault before it
@@ -173,7 +173,7 @@ class Serve:
             if self._process.poll() is None:
                 return self._process
             self._forget(self._process)
-        said = open_memory_file()
+        said = memory_file()
         try:
             self._process = start(self._command, said, subprocess.PIPE)
             assert self._process.stdin is not None

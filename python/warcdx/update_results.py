@@ -11,7 +11,7 @@ import stat
 from collections.abc import Iterable, Iterator
 from typing import IO, Any, NamedTuple, Optional
 
-from .ending import deferred
+from .ending import blocked
 from .update_counts import Made
 from .update_files import CannotUpdate, Fingerprint, is_in, is_regular, move, read, remove, write_new, write_to_disk
 from .update_folder import Archive, Found
@@ -210,7 +210,7 @@ class Results:
         self.unfinished.mkdir()
 
     def _end(self) -> None:
-        with deferred():
+        with blocked():
             self.log.close()
             self._clear()
 

@@ -2,13 +2,13 @@
 import contextlib
 import re
 import subprocess
+import tempfile
 from collections.abc import Iterable, Iterator, Sequence
 from typing import IO, NamedTuple, Optional
 
 from .codings import Unreadable
-from .ending import memory_file
 from .program import close, fault_of, started
-from .temporary import temporary_file
+from .temporary import memory_file
 
 MOST_URL = 1 << 20  # bytes: the program refuses the head of a record that is longer
 _HEAD = (
@@ -46,7 +46,7 @@ def keys_of(program: str, urls: Sequence[bytes]) -> Iterator[Keyed]:
 
     No URL has a line feed. The program reads the URLs as the targets of records. Raises Error if it fails.
     """
-    with temporary_file() as lines:
+    with tempfile.TemporaryFile() as lines:
         _index(program, urls, lines)
         lines.seek(0)
         found = _keyed_by_offset(lines)

@@ -8,7 +8,7 @@ from collections.abc import Callable, Sequence
 from typing import IO, BinaryIO, NoReturn
 
 from .command import FAILED, printable, report, run
-from .ending import deferred, reserve
+from .ending import blocked
 from .errors import Error
 from .streams import write_error
 from .temporary import temporary_folder
@@ -24,7 +24,7 @@ def run_in_order(name: str, works: Sequence[Work], most: int, output: BinaryIO) 
     Writes their outputs in the order of the works. Until then they are in temporary files. A work that fails by
     an exception is the last, and is reported.
     """
-    with temporary_folder() as folder, contextlib.closing(_Workers(name, works, folder)) as workers, reserve:
+    with temporary_folder() as folder, contextlib.closing(_Workers(name, works, folder)) as workers:
         return workers.run_all(most, output)
 
 
@@ -73,7 +73,7 @@ class _Workers:
     def _start_to(self, most: int) -> None:
         """Starts processes until `most` run, or each work has one."""
         while len(self._running) < most and self._started < len(self._works):
-            with deferred(), open(self._part(self._started), "wb") as part:
+            with blocked(), open(self._part(self._started), "wb") as part:
                 self._start(self._started, part.fileno())
                 self._started += 1
 
@@ -93,7 +93,7 @@ class _Workers:
         """Waits until a process ends. One that a signal has ended is reported, and has no output."""
         found = os.waitid(os.P_ALL, 0, os.WEXITED | os.WNOWAIT)
         assert found is not None
-        with deferred():
+        with blocked():
             if found.si_pid in self._running:
                 self._end(found.si_pid)
             else:  # what became this command had started it
@@ -122,7 +122,7 @@ class _Workers:
 
     def close(self) -> None:
         """Ends the processes that run."""
-        with deferred():
+        with blocked():
             for identifier in self._running:
                 os.kill(identifier, signal.SIGTERM)
             for identifier in self._running:
@@ -145,6 +145,7 @@ class _Workers:
             return status
 
         try:
+            signal.pthread_sigmask(signal.SIG_SETMASK, ())
             os.dup2(part, 1)
             os.dup2(said, 2)
             status = run(self._name, work)

@@ -19,6 +19,13 @@ printf '#!/bin/sh\n[ "$1" != --help ] || exec "%s" "$@"\nkill -9 $$\n' "$program
 chmod 755 killed
 shows "a program that is killed" "warcdx has ended with signal 9" run_python verify --warcdx ./killed response.warc
 
+row "\`no index has a capture of it\`"
+"$program" index "$root/samples/response.warc" > response.cdxj
+shows "no capture" "no index has a capture of it" run_python fetch --warcdx "$program" --index response.cdxj http://example.com/none
+row "\`it is a revisit, and no index has its original\`"
+row "\`it is there, and isn't replaced\`"
+: > there
+shows "a file" "it is there, and isn't replaced" run_python fetch --warcdx "$program" --index response.cdxj --archives "$root/samples" -o there http://example.com/
 row "\`no digest was compared\`"
 shows "an archive without digests" "no digest was compared" run_python verify --warcdx "$program" response.warc
 

@@ -52,7 +52,7 @@ END
 # move_python_package FOLDER MODULES: moves the Python package to Debian's modules, with the files that give other programs its version.
 move_python_package() {
     mkdir --parents "$2"
-    mv "$1/warcdx" "$2"
+    mv "$1"/warcdx{,_start.py} "$2"
     rm "$1"/{LICENSE,VERSION,build_backend.py,pyproject.toml}
     printf '%s\n' "Metadata-Version: 2.1" "Name: warcdx" "Version: $version" > "$2/warcdx-$version.egg-info"
 }
