@@ -184,9 +184,10 @@ class Archive:
         pass
 
     def _text_at(self, offset: int, length: Optional[int], most: int) -> Optional[bytes]:
-        """Returns the text of the record at an offset, of at most so many bytes, if no program is needed to find it.
+        """Returns the text of the record at an offset, or None if the program has to find it.
 
-        Whether it is a record isn't looked at.
+        None stands for a text of more than `most` bytes too.
+        Whether the text is a record isn't looked at.
         """
         try:
             with ArchiveFile(self.path) as file:

@@ -179,7 +179,7 @@ class ArchiveFile:
         return None
 
     def _look(self, offset: int, least: int) -> int:
-        """Holds at least so many bytes from an offset on, if the file has them. Returns the index of the first one."""
+        """Holds `least` bytes or more from an offset on, if the file has them. Returns the index of the first one."""
         at = offset - self._start
         if not 0 <= at <= len(self._held) - least:
             self._held = os.pread(self._number, max(least, _AHEAD), offset)
