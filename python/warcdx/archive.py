@@ -1,6 +1,7 @@
 """The records of an archive, by `list`, `verify`, `index` and `get` of the program."""
 import contextlib
 import io
+import operator
 import os
 import re
 import stat
@@ -170,6 +171,7 @@ class Archive:
 
         Raises NoRecord for an offset or a length that no record has, and the program refuses as an argument.
         """
+        offset, length = operator.index(offset), None if length is None else operator.index(length)
         if not (0 <= offset <= _MOST and 0 <= (length or 0) <= _MOST):
             raise NoRecord("NoRecord", self.path)
         only = () if length is None else ("--length", str(length))
@@ -189,6 +191,7 @@ class Archive:
         None stands for a text of more than `most` bytes too.
         Whether the text is a record isn't looked at.
         """
+        offset, length = operator.index(offset), None if length is None else operator.index(length)
         try:
             with ArchiveFile(self.path) as file:
                 if self._is_packed(file):
