@@ -24,8 +24,9 @@ Go from a query to the records of its captures. The archives are in a folder:
         for record in collection.records("example.com/a*"):
             print(record.field("WARC-Date"), payload(record)[:80])
 
-All exceptions are an `Error`. A query that can't be is `Refused`, and says what there is. An archive or an index that is
-damaged, or can't be opened, is a `Fault` with the `file` and the `offset` in bytes; each cause has a class in `faults`.
+All exceptions are an `Error`. A query that the program doesn't take is `Refused`, and the message says what it takes.
+An archive or an index that is damaged, or can't be opened, is a `Fault` with its `file` and the `offset` in bytes. Each
+cause has a class in `faults`, and each refusal one in `refusals`. docs/PYTHON.md says more.
 """
 from . import faults, refusals
 from .archive import Archive, CompressedArchive, Listed, Verified, open_archive

@@ -30,19 +30,37 @@ from warcdx import Archive, CompressedArchive, Error, Fault, Record, open_archiv
 
 Place = tuple[int, Optional[int]]  # an offset and a length
 Found = Union[Record, bytes, str]
+# Changes of a record that is of the usual form but for one thing.
+ODD = (
+    (b"-09-19T", b"-02-30T"), (b"T17:20:24", b"T24:20:24"), (b"2016-", b"0000-"), (b"Content-Length: ", b"Content-Length: 000000000000000000"),
+    (b"Content-Length: ", b"Content-Length: -"), (b"Content-Length: ", b"Content-Length: 1"), (b"Content-Length", b"WARC-Type"),
+    (b"WARC/1.", b"WARC/2."), (b"WARC/1.", b"warc/1."), (b"WARC-Type", b"WARC-Date"), (b"WARC-Record-ID", b"X"), (b"WARC-Type", b"WARC-Type "),
+    (b"WARC-Type", b"W(RC-Type"), (b"WARC-Type", b"WARC-T\xc3\xa9"), (b"WARC-Type", b""), (b":", b""), (b": ", b":\0"), (b": ", b":\r"), (b": ", b":\n"),
+    (b": ", b":\r\n "), (b"\r\n", b"\n"), (b"\r\n", b"\r\n "), (b"\r\n\r\n", b"\r\n"), (b"\r\n\r\n", b"\r\n\r\n\r\n"), (b"\r\n\r\n", b"\r\n\n\r"),
+    (b"\r\n\r\n", b"\r\n\r\nx"),
+)  # fmt: skip
 ENDS = (b"x", b"\0" * 20, b"\x1f", b"\x1f\x8b", b"\r\n", b"WARC/1.1\r\n", b"WARC/1.1\r\n\r\n")
 
 
 def some_text(choice: random.Random) -> bytes:
-    """Most often a record; or one at fault, one that is changed, none, or two."""
+    """Most often a record; or an odd one, one at fault, one that is changed, none, or two."""
     kind = choice.random()
-    if kind < 0.75:
+    if kind < 0.6:
         return record(choice)
+    if kind < 0.75:
+        return odd(choice, record(choice))
     if kind < 0.82:
         return record_at_fault(choice)
     if kind < 0.92:
         return mutated(choice, record(choice))
     return choice.choice((b"", record(choice) + record(choice), record(choice) + b"\0", record(choice)[:-1], choice.randbytes(30)))
+
+
+def odd(choice: random.Random, text: bytes) -> bytes:
+    """A record with one of the changes, in its first place or in its last."""
+    old, new = choice.choice([change for change in ODD if change[0] in text])
+    at = text.index(old) if choice.random() < 0.7 else text.rindex(old)
+    return text[:at] + new + text[at + len(old) :]
 
 
 def some_member(choice: random.Random) -> bytes:
@@ -54,7 +72,7 @@ def some_archive(choice: random.Random) -> bytes:
     if choice.random() < 0.5:
         made = b"".join(some_member(choice) for _ in range(choice.randint(0, 5)))
     else:
-        made = archive(choice, 5, share_at_fault=0.3)
+        made = archive(choice, 5, share_at_fault=0.3) if choice.random() < 0.5 else b"".join(some_text(choice) for _ in range(choice.randint(1, 4)))
     if choice.random() < 0.3:
         made = mutated(choice, made)
     if choice.random() < 0.1:
