@@ -37,7 +37,7 @@ ODD = (
     (b"WARC/1.", b"WARC/2."), (b"WARC/1.", b"warc/1."), (b"WARC-Type", b"WARC-Date"), (b"WARC-Record-ID", b"X"), (b"WARC-Type", b"WARC-Type "),
     (b"WARC-Type", b"W(RC-Type"), (b"WARC-Type", b"WARC-T\xc3\xa9"), (b"WARC-Type", b""), (b":", b""), (b": ", b":\0"), (b": ", b":\r"), (b": ", b":\n"),
     (b": ", b":\r\n "), (b"\r\n", b"\n"), (b"\r\n", b"\r\n "), (b"\r\n\r\n", b"\r\n"), (b"\r\n\r\n", b"\r\n\r\n\r\n"), (b"\r\n\r\n", b"\r\n\n\r"),
-    (b"\r\n\r\n", b"\r\n\r\nx"), (b"\r\n\r\n", b"\0\0\r\n"), (b"\r\n\r\n", b"\r\n--"),
+    (b"\r\n", b"\r\n:x\r\n"), (b"\r\n", b"\r\nwarc-type: a\r\n"), (b"\r\n", b"\r\nWARC-Date: 2016\r\n"), (b"\r\n\r\n", b"\r\n\r\nx"), (b"\r\n\r\n", b"\0\0\r\n"), (b"\r\n\r\n", b"\r\n--"),
 )  # fmt: skip
 ENDS = (b"x", b"\0" * 20, b"\x1f", b"\x1f\x8b", b"\r\n", b"WARC/1.1\r\n", b"WARC/1.1\r\n\r\n")
 
