@@ -39,8 +39,6 @@ Classifier: Operating System :: POSIX :: Linux
 Classifier: Programming Language :: Python :: 3 :: Only
 Classifier: Typing :: Typed
 Requires-Python: >=3.9
-Provides-Extra: plot
-Requires-Dist: matplotlib>=3.6; extra == "plot"
 Description-Content-Type: text/markdown
 
 """

@@ -1,9 +1,9 @@
-"""URL keys of many URLs, as `warcdx index` makes them."""
+"""URL keys: of many URLs, as `warcdx index` makes them, and their hosts."""
 import contextlib
 import re
 import subprocess
 from collections.abc import Iterable, Iterator, Sequence
-from typing import IO, NamedTuple
+from typing import IO, NamedTuple, Optional
 
 from .codings import Unreadable
 from .ending import memory_file
@@ -27,6 +27,18 @@ class Keyed(NamedTuple):
 
     key: bytes
     escaped: bytes
+
+
+
+def host_of(key: str) -> Optional[str]:
+    """Returns the host and the port of a key, or None if it isn't that of a web address."""
+    front, found, path = key.partition(")")
+    if not found or not path.startswith("/"):
+        return None
+    if front.startswith("["):
+        return front
+    labels, colon, port = front.partition(":")
+    return ".".join(reversed(labels.split(","))) + colon + port
 
 
 def keys_of(program: str, urls: Sequence[bytes]) -> Iterator[Keyed]:

@@ -70,9 +70,13 @@ see_also() { # PAGE: the commands of the release that it names there
     mandoc -T utf8 -O width=200 "$1" | col -bx | sed -n '/^SEE ALSO/,/^[A-Z]*$/p' | grep --only-matching 'warcdx[a-z-]*(1)' | in_a_line
 }
 
-options_of_packed() {
+pages_of_packed() { # the help of each of its commands
     local command
-    for command in $commands; do "$packed" "$command" --help; done | grep --only-matching -- '--[a-z][a-z-]*' | sort --unique
+    for command in $commands; do "$packed" "$command" --help; done
+}
+
+options_of_packed() {
+    pages_of_packed | grep --only-matching -- '--[a-z][a-z-]*' | sort --unique
 }
 
 packed_causes() { # in the table of docs/COMPRESSED.md
@@ -85,6 +89,8 @@ expect "warcdx-gz: commands" "$commands" "$("$packed" --help | sed -n '/^Command
 expect "warcdx-gz: synopses" "" "$(for command in $commands; do sed -n '/^SYNOPSIS/,/^DESCRIPTION/p' "$work/page" | grep --quiet --word-regexp "$command" || echo "$command"; done)"
 expect "warcdx-gz: options" "" "$(options_of_packed | while read -r option; do grep --quiet --fixed-strings -- "$option" "$work/page" || echo "$option"; done)"
 expect_on_page "warcdx-gz: causes" < <(packed_causes)
+expect "warcdx-gz: its name in messages and examples" "" "$(pages_of_packed | grep "^  warcdx[: ]\|'warcdx [a-z]* --help'")"
+expect "warcdx-gz: lines of at most 80 columns" "" "$(pages_of_packed | grep '.\{81\}')"
 
 pages=("$root"/docs/*.1)
 for page in "${pages[@]}"; do

@@ -60,8 +60,6 @@ def commands_of(program: pathlib.Path) -> Iterator[Command]:
     ):
         script = Script(" ".join((name, *words)), folder / name, (*of_warcdx, *words), most_lines=3)
         yield Command(script, name, status, "pages.warc.gz" if "pipe" in words else None)
-    words = ("-m", "warcdx.plot", *of_warcdx, "hosts", "a.cdxj")
-    yield Command(Script("python3 -m warcdx.plot", pathlib.Path(sys.executable), words), "warcdx.plot")
     words = ("--quiet", "--jobs", "2", *of_warcdx, "crawl", INDEX)
     yield Command(Script("warcdx-update", folder / "warcdx-update", words, most_lines=20), "warcdx-update")
     for script in gateway(program):
@@ -96,7 +94,7 @@ class Trial(Run):
         self.command = command
         if command.pipe:
             os.mkfifo(folder / "pipe")
-        self.environment = {"PYTHONPATH": str(ROOT / "python")} if command.name == "warcdx.plot" else {}
+        self.environment: dict[str, str] = {}
         self.ended(words=self.help_words)  # which writes the files of byte code
         # Python writes them without a look at the count, so a limit of sizes would cut them for all others.
         self.environment["PYTHONDONTWRITEBYTECODE"] = "1"

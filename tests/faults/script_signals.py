@@ -3,11 +3,12 @@ import os
 import pathlib
 import signal
 import subprocess
+import tempfile
 import time
 from collections.abc import Callable, Iterator
 
 from device_runs import SECONDS, expect, position
-from script_runs import Run
+from script_runs import Ended, Run
 
 signal.signal(signal.SIGINT, signal.default_int_handler)  # a job in the background ignores it, and so would its commands
 
@@ -101,12 +102,15 @@ def cut_while_read(run: Run) -> Iterator[str]:
     is_cut = False
     for _ in range(20):
         path.write_bytes(text)
-        process = run.start(words=run.script.words_for("shrinking"))
-        wait_until(process, lambda: any(position(number, path) > 2 for number in family(process.pid)))
-        process.send_signal(signal.SIGSTOP)
-        os.truncate(path, len(text) // 2 + 50)
-        process.send_signal(signal.SIGCONT)
-        found = run.end_of(process)
+        with tempfile.TemporaryFile() as output:  # which is never full, as a pipe would be that nobody reads yet
+            process = run.start(words=run.script.words_for("shrinking"), stdout=output)
+            wait_until(process, lambda: any(position(number, path) > 2 for number in family(process.pid)))
+            process.send_signal(signal.SIGSTOP)
+            os.truncate(path, len(text) // 2 + 50)
+            process.send_signal(signal.SIGCONT)
+            status, _, error = run.end_of(process)
+            output.seek(0)
+            found = Ended(status, output.read(), error)
         if (found.status, found.error) == (0, b""):
             expect(found.output == run.usual().output.replace(run.script.file.encode(), b"shrinking"), "another output")
             continue

@@ -18,6 +18,7 @@ import bisect
 import concurrent.futures
 import os
 import pathlib
+import shlex
 import sys
 import tempfile
 from collections.abc import Callable, Iterator
@@ -25,7 +26,7 @@ from collections.abc import Callable, Iterator
 sys.path.insert(0, str(pathlib.Path(__file__).resolve().parents[1]))
 
 from device_runs import SECONDS, Differs, expect
-from program import Report, add_program, find_program, parser_of
+from program import Report, add_program, find_packed_program, find_program, parser_of
 from script_runs import Disk, Ended, Run, Script, scripts_of
 from script_signals import at_moments, before_it_serves, cut_while_read
 
@@ -167,14 +168,18 @@ def unreadable_files(run: Run) -> Iterator[str]:
 
 
 def killed_program(run: Run) -> Iterator[str]:
-    """The program that the script runs is killed as it begins, and in its output."""
-    begins = f'#!/bin/sh\n[ "$1" != --help ] || exec {run.program} "$@"\n'
-    in_output = f'{run.program} "$@" | {{ head -c 100; kill -9 $$; }}'
+    """The programs that the script runs are killed as they begin, and in their output."""
+    folder = run.folder / "killed"
+    folder.mkdir()
+    in_output = '"$program" "$@" | { head -c 100; kill -9 $$; }'
     for text in ("kill -9 $$", in_output, "exit 101", "echo; echo x >&2; exit 3"):
-        program = run.folder / "killed"
-        program.write_text(f"{begins}{text}\n")
-        program.chmod(0o755)
-        found = run.ended(words=tuple(str(program) if word == str(run.program) else word for word in run.script.words))
+        for program in (run.program, find_packed_program(run.program)):
+            begins = f'program={shlex.quote(str(program))}\n[ "$1" != --help ] || exec "$program" "$@"\n'
+            wrapper = folder / program.name
+            wrapper.write_text(f"#!/bin/sh\n{begins}{text}\n")
+            wrapper.chmod(0o755)
+        wrapped = str(folder / run.program.name)
+        found = run.ended(words=tuple(wrapped if word == str(run.program) else word for word in run.script.words))
         run.expect_failure(found)
     yield "a program that is killed"
 

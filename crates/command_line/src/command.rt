@@ -6,7 +6,10 @@ ghost use Rattle.command_line.specs.Commands.{commands};
 ghost use Rattle.command_line.specs.Clap.{word_rule, names_rule, option_rule, command_with, warcdx};
 
 use crate::help::archives::{GET, INDEX, LIST, SCAN, VERIFY};
-use crate::help::indexes::{CHECK, MERGE, PAGES, QUERY, SERVE};
+use crate::help::indexes::{
+    CHECK, COMPRESSED_CHECK, COMPRESSED_MERGE, COMPRESSED_PAGES, COMPRESSED_QUERY,
+    COMPRESSED_SERVE, MERGE, PAGES, QUERY, SERVE,
+};
 use crate::help::{
     ARCHIVE, CDXJ, LENGTH, NAME, OFFSET, Operand, PROGRAM, Page, QUERY_TEXT, SIZES, TYPES,
     compressed,
@@ -37,7 +40,7 @@ pub fn command_line<'a>(alloc: Global, of: Program) -> Result<Command<'a>, Alloc
     ensures { IfOk result (λ command. app_of command ≡ warcdx) }
 {
     let program = with_archive_commands(program(alloc, of)?, alloc, of)?;
-    let program = with_index_commands(program, alloc)?;
+    let program = with_index_commands(program, alloc, of)?;
     with_record_commands(program, alloc, of)
 }
 
@@ -86,27 +89,34 @@ fn with_archive_commands<'a>(
 }
 
 /// Adds the subcommands over indexes.
-fn with_index_commands<'a>(program: Command<'a>, alloc: Global) -> Result<Command<'a>, AllocError>
+fn with_index_commands<'a>(
+    program: Command<'a>,
+    alloc: Global,
+    of: Program,
+) -> Result<Command<'a>, AllocError>
     ensures { IfOk result (λ more. app_of more
         ≡ with_commands (app_of program.entry) (take 5 (drop 3 commands))) }
 {
-    let merge = with_command(program, alloc, "merge", MERGE, &[Argument::Indexes])?;
-    let check = with_command(merge, alloc, "check", CHECK, &[Argument::Indexes])?;
+    let page = page_of(of, MERGE, COMPRESSED_MERGE);
+    let merge = with_command(program, alloc, "merge", page, &[Argument::Indexes])?;
+    let page = page_of(of, CHECK, COMPRESSED_CHECK);
+    let check = with_command(merge, alloc, "check", page, &[Argument::Indexes])?;
     let query = with_command(
         check,
         alloc,
         "query",
-        QUERY,
+        page_of(of, QUERY, COMPRESSED_QUERY),
         &[Argument::Query, Argument::Indexes],
     )?;
     let pages = with_command(
         query,
         alloc,
         "pages",
-        PAGES,
+        page_of(of, PAGES, COMPRESSED_PAGES),
         &[Argument::Sizes, Argument::Query, Argument::Indexes],
     )?;
-    with_command(pages, alloc, "serve", SERVE, &[Argument::Indexes])
+    let page = page_of(of, SERVE, COMPRESSED_SERVE);
+    with_command(pages, alloc, "serve", page, &[Argument::Indexes])
 }
 
 /// Adds the subcommands that write one record of an archive, and answer a query over archives.

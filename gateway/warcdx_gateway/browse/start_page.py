@@ -9,7 +9,7 @@ from typing import Any, Optional
 
 from werkzeug.wrappers import Response
 
-from warcdx.counting import host_of
+from warcdx.url_keys import host_of
 
 from ..application import Gateway
 from ..collection import Collection

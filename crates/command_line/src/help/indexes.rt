@@ -1,58 +1,68 @@
-//! Help for the commands that read indexes.
+//! Help for the commands that read indexes. The pages of both programs differ in the name alone.
 use super::Page;
 
-/// The page of `warcdx merge`.
-pub const MERGE: Page = Page {
-    about: "Merges indexes into one",
-    details: "\
+macro_rules! merge_page {
+    ($program:literal) => {
+        Page {
+            about: "Merges indexes into one",
+            details: concat!("\
 Writes the lines of all indexes to standard output, in the order of key, stamp,
 file name and offset. Each line is written as it is in its index. If several
 lines have all four in common, only the first is written: that of the index
 that you name first.
 
-The indexes must be sorted; 'warcdx check' checks it. At most 1,024 indexes are
+The indexes must be sorted; '", $program, " check' checks it. At most 1,024 are
 merged. One line of each is held in memory, and the lines of one key and stamp.
 
 All indexes are opened before the first is read. The first fault ends the
 command, and is reported on standard error. The output until then remains:
 
-  warcdx: NAME: cannot open
-  warcdx: NAME: Read
-  warcdx: NAME: BadLine OFFSET
-  warcdx: NAME: OutOfOrder OFFSET
-  warcdx: TooManySources
+  ", $program, ": NAME: cannot open
+  ", $program, ": NAME: Read
+  ", $program, ": NAME: BadLine OFFSET
+  ", $program, ": NAME: OutOfOrder OFFSET
+  ", $program, ": TooManySources
 
-OFFSET is the byte at which the line at fault begins. 'warcdx check --help'
+OFFSET is the byte at which the line at fault begins. '", $program, " check --help'
 explains the causes.
 
 Examples:
-  warcdx merge crawl-1.cdxj crawl-2.cdxj > crawls.cdxj
-  warcdx merge *.cdxj > all
+  ", $program, " merge crawl-1.cdxj crawl-2.cdxj > crawls.cdxj
+  ", $program, " merge *.cdxj > all
 
 Exit status:
   0  the indexes were merged
   1  an index has a bad line, or one out of order, or there are too many
   2  usage error
-  3  a file can't be opened or read, or memory or the output failed",
-};
+  3  a file can't be opened or read, or memory or the output failed"),
+        }
+    };
+}
 
-/// The page of `warcdx check`.
-pub const CHECK: Page = Page {
-    about: "Checks that indexes are sorted, and counts their lines",
-    details: "\
+/// The page of `warcdx merge`.
+pub const MERGE: Page = merge_page!("warcdx");
+
+/// The page of `warcdx-gz merge`.
+pub const COMPRESSED_MERGE: Page = merge_page!("warcdx-gz");
+
+macro_rules! check_page {
+    ($program:literal) => {
+        Page {
+            about: "Checks that indexes are sorted, and counts their lines",
+            details: concat!("\
 Reads each index from its start. If it is in order, this line is printed:
 
   NAME COUNT
 
 COUNT is the number of its lines. An index is in order if every line is one of a
 capture, and no line has a key and stamp below those of the line before it, by
-bytes. 'warcdx index' writes such indexes, and so does LC_ALL=C sort.
+bytes. '", $program, " index' writes such indexes, and so does LC_ALL=C sort.
 docs/CDXJ.md has the rules.
 
 For any other index the first line at fault is reported on standard error, with
 the byte at which it begins:
 
-  warcdx: NAME: CAUSE OFFSET
+  ", $program, ": NAME: CAUSE OFFSET
 
 CAUSE is one of these:
 
@@ -63,22 +73,31 @@ CAUSE is one of these:
 The indexes after it are checked too. An index that can't be read, or that is
 cut while it is checked, is reported:
 
-  warcdx: NAME: Read
+  ", $program, ": NAME: Read
 
 Example:
-  warcdx check crawl-1.cdxj crawl-2.cdxj
+  ", $program, " check crawl-1.cdxj crawl-2.cdxj
 
 Exit status:
   0  all the indexes are in order
   1  an index has a bad line, or one out of order
   2  usage error
-  3  a file can't be opened or read, or memory or the output failed",
-};
+  3  a file can't be opened or read, or memory or the output failed"),
+        }
+    };
+}
 
-/// The page of `warcdx query`.
-pub const QUERY: Page = Page {
-    about: "Writes the captures that a query selects",
-    details: "\
+/// The page of `warcdx check`.
+pub const CHECK: Page = check_page!("warcdx");
+
+/// The page of `warcdx-gz check`.
+pub const COMPRESSED_CHECK: Page = check_page!("warcdx-gz");
+
+macro_rules! query_page {
+    ($program:literal) => {
+        Page {
+            about: "Writes the captures that a query selects",
+            details: concat!("\
 Writes the captures of the indexes that the query selects, in the order of key,
 stamp, file name and offset. If lines of several indexes have all four in
 common, only the first counts: that of the index that you name first.
@@ -104,19 +123,19 @@ shell:
   showResumeKey=true if captures follow, print the key to continue with
   resumeKey=KEY      continue from a printed key
 
-docs/QUERY.md has the rules. The indexes must be sorted; 'warcdx check' checks
-it. Only the lines that a query needs are read and checked.
+docs/QUERY.md has the rules. The indexes must be sorted; '", $program, " check'
+checks it. Only the lines that a query needs are read and checked.
 
 The query is read first. Then all indexes are opened, at most 1,024. The first
 fault ends the command, and is reported on standard error. The output until
 then remains:
 
-  warcdx: query: CAUSE
-  warcdx: NAME: cannot open
-  warcdx: NAME: Read
-  warcdx: NAME: BadLine OFFSET
-  warcdx: NAME: OutOfOrder OFFSET
-  warcdx: TooManySources
+  ", $program, ": query: CAUSE
+  ", $program, ": NAME: cannot open
+  ", $program, ": NAME: Read
+  ", $program, ": NAME: BadLine OFFSET
+  ", $program, ": NAME: OutOfOrder OFFSET
+  ", $program, ": TooManySources
 
 CAUSE is one of these:
 
@@ -139,58 +158,76 @@ CAUSE is one of these:
                      matchType host and domain
 
 Examples:
-  warcdx query 'url=example.com' crawl.cdxj
-  warcdx query 'url=*.example.com&filter=statuscode:200&output=json' *.cdxj
-  warcdx query 'key=com,example)/a&fl=offset,filename' crawl.cdxj
+  ", $program, " query 'url=example.com' crawl.cdxj
+  ", $program, " query 'url=*.example.com&filter=statuscode:200&output=json' *.cdxj
+  ", $program, " query 'key=com,example)/a&fl=offset,filename' crawl.cdxj
 
 Exit status:
   0  the captures were written
   1  the query is refused, an index has a bad line or one out of order, or
      there are too many
   2  usage error
-  3  a file can't be opened or read, or memory or the output failed",
-};
+  3  a file can't be opened or read, or memory or the output failed"),
+        }
+    };
+}
 
-/// The page of `warcdx pages`.
-pub const PAGES: Page = Page {
-    about: "Writes the captures that a query selects, page by page",
-    details: "\
-Writes all captures that the query selects, as 'warcdx query' does, in pages of
-the given sizes. SIZES are 1 to 1,000 numbers from 1 to 1,000,000, separated by
-commas: the size of the first page, of the second and so on. The last size is
+/// The page of `warcdx query`.
+pub const QUERY: Page = query_page!("warcdx");
+
+/// The page of `warcdx-gz query`.
+pub const COMPRESSED_QUERY: Page = query_page!("warcdx-gz");
+
+macro_rules! pages_page {
+    ($program:literal) => {
+        Page {
+            about: "Writes the captures that a query selects, page by page",
+            details: concat!("\
+Writes all captures that the query selects, as '", $program, " query' does, in pages
+of the given sizes. SIZES are 1 to 1,000 numbers from 1 to 1,000,000, separated
+by commas: the size of the first page, of the second and so on. The last size is
 repeated. Each page but the last ends with the resume key of the next one. The
 query's limit and showResumeKey have no effect. The first page begins after the
 place of its resumeKey.
 
-'warcdx query --help' explains queries, what is reported, and what to do.
+'", $program, " query --help' explains queries, what is reported, and what to do.
 
 Examples:
-  warcdx pages 100 'url=example.com/*' crawl.cdxj
-  warcdx pages 10,100,1000 'url=*.example.com&output=json' *.cdxj
+  ", $program, " pages 100 'url=example.com/*' crawl.cdxj
+  ", $program, " pages 10,100,1000 'url=*.example.com&output=json' *.cdxj
 
 Exit status:
   0  the captures were written
   1  the query is refused, an index has a bad line or one out of order, or
      there are too many
   2  usage error
-  3  a file can't be opened or read, or memory or the output failed",
-};
+  3  a file can't be opened or read, or memory or the output failed"),
+        }
+    };
+}
 
-/// The page of `warcdx serve`.
-pub const SERVE: Page = Page {
-    about: "Answers queries line by line",
-    details: "\
+/// The page of `warcdx pages`.
+pub const PAGES: Page = pages_page!("warcdx");
+
+/// The page of `warcdx-gz pages`.
+pub const COMPRESSED_PAGES: Page = pages_page!("warcdx-gz");
+
+macro_rules! serve_page {
+    ($program:literal) => {
+        Page {
+            about: "Answers queries line by line",
+            details: concat!("\
 Reads queries from standard input, one per line, and writes a reply to each:
-what 'warcdx query' writes for it, and then a line with only a period. Each
+what '", $program, " query' writes for it, and then a line with only a period. Each
 reply is flushed before the next line is read.
 
 The reply to a query that is refused is
 
   refused CAUSE
 
-with a cause that 'warcdx query --help' lists, or NotText for a query that isn't
-UTF-8. If an index has a bad line, or one out of order, the reply is the page up
-to that line, a line feed and
+with a cause that '", $program, " query --help' lists, or NotText for a query that
+isn't UTF-8. If an index has a bad line, or one out of order, the reply is the
+page up to that line, a line feed and
 
   fault CAUSE NUMBER OFFSET
 
@@ -200,18 +237,27 @@ the next query is read. docs/QUERY.md has the rules.
 All indexes are opened first. Any other fault ends the command, and is reported
 on standard error:
 
-  warcdx: NAME: cannot open
-  warcdx: NAME: Read
-  warcdx: TooManySources
-  warcdx: Input
+  ", $program, ": NAME: cannot open
+  ", $program, ": NAME: Read
+  ", $program, ": TooManySources
+  ", $program, ": Input
 
 Examples:
-  warcdx serve crawl.cdxj < queries
-  socat -t 60 TCP-LISTEN:8080,bind=127.0.0.1,fork EXEC:'warcdx serve crawl.cdxj'
+  ", $program, " serve crawl.cdxj < queries
+  socat -t 60 TCP-LISTEN:8080,bind=127.0.0.1,fork \\
+    EXEC:'", $program, " serve crawl.cdxj'
 
 Exit status:
   0  the input ended
   1  there are too many indexes
   2  usage error
-  3  a file can't be opened or read, or memory, the input or the output failed",
-};
+  3  a file can't be opened or read, or memory, the input or the output failed"),
+        }
+    };
+}
+
+/// The page of `warcdx serve`.
+pub const SERVE: Page = serve_page!("warcdx");
+
+/// The page of `warcdx-gz serve`.
+pub const COMPRESSED_SERVE: Page = serve_page!("warcdx-gz");
