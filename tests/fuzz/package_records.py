@@ -155,7 +155,7 @@ def some_places(choice: random.Random, archive: Archive, size: int) -> list[Plac
 def expect_same(trial: Trial, here: Archive, asked: Archive, size: int) -> None:
     asks = count_asks(here)
     found, wanted = all_of(here), all_of(asked)
-    trial.tally["records that the program was asked for in an iteration"] += len(asks)
+    trial.tally["places at which an iteration asks the program"] += len(asks)
     trial.check(found == wanted, f"{here.path} has {found!s:.1500}\nand by the program {wanted!s:.1500}")
     trial.tally["records"] += sum(isinstance(each, Record) for each in found)
     trial.tally[f"archive: {str(found[-1]).split()[0] if found and isinstance(found[-1], str) else 'whole'}"] += 1
