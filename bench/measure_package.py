@@ -142,10 +142,10 @@ def main() -> int:
         times["import warcdx"], times["import of its modules of std"] = importing
         figures = [
             Figure("over a loop over members", gz_time / loop_time, 1.5),
-            Figure("Collection.record, records a second, .warc.gz", RECORDS / gz_record, None),
-            Figure("Collection.record, records a second, .warc", RECORDS / plain_record, None),
-            Figure("over the program, .warc.gz", gz_record / RECORDS / (gz_asked / ASKED), 0.025),
-            Figure("over the program, .warc", plain_record / RECORDS / (plain_asked / ASKED), 0.025),
+            Figure("Collection.record of a .warc.gz", RECORDS / gz_record / 1000, None, "records/ms"),
+            Figure("Collection.record of a .warc", RECORDS / plain_record / 1000, None, "records/ms"),
+            Figure("over the program, .warc.gz", gz_record / RECORDS / (gz_asked / ASKED), 0.05),
+            Figure("over the program, .warc", plain_record / RECORDS / (plain_asked / ASKED), 0.05),
             Figure("import over its modules of std", importing[0] / importing[1], 1.3),
             Figure("a start with 1 GB of memory", 1000 * start_time(open_archive(plain, program=program)), 5, "ms"),
         ]

@@ -1,4 +1,33 @@
-"""Queries over the indexes of web archives, and their records, by the programs `warcdx` and `warcdx-gz`."""
+"""Queries over the indexes of web archives, and their records, by the programs `warcdx` and `warcdx-gz`.
+
+Read the records of an archive, plain or compressed:
+
+    from warcdx import open_archive, payload
+
+    for record in open_archive("crawl.warc.gz"):
+        if record.kind == "response":
+            print(record.field("WARC-Target-URI"), len(payload(record)))
+
+Query an index, which `warcdx-gz index crawl.warc.gz > crawl.cdxj` makes. Without an argument all captures are given:
+
+    from warcdx import Index
+
+    with Index("crawl.cdxj") as index:
+        for capture in index.captures("*.example.com", since="2016-09", filter="statuscode:200", limit=100):
+            print(capture.timestamp, capture.original)
+
+Go from a query to the records of its captures. The archives are in a folder:
+
+    from warcdx import Collection, payload
+
+    with Collection("crawl.cdxj", "archives") as collection:
+        for record in collection.records("example.com/a*"):
+            print(record.field("WARC-Date"), payload(record)[:80])
+
+All exceptions are an `Error`. A query that the program doesn't take is `Refused`, and the message says what it takes.
+An archive or an index that is damaged, or can't be opened, is a `Fault` with its `file` and the `offset` in bytes. Each
+cause has a class in `faults`, and each refusal one in `refusals`. docs/PYTHON.md says more.
+"""
 from . import faults, refusals
 from .archive import Archive, CompressedArchive, Listed, Verified, open_archive
 from .collection import Collection

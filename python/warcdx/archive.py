@@ -1,6 +1,7 @@
 """The records of an archive, by `list`, `verify`, `index` and `get` of the program."""
 import contextlib
 import io
+import operator
 import os
 import re
 import stat
@@ -106,6 +107,10 @@ class Archive:
     def streams(self) -> Iterator[RecordStream]:
         """Yields each record to be read in pieces, before the next one is taken. Long ones take little memory so."""
         for listed in self.list():
+            text = self._text_at(listed.offset, listed.length, _MOST_STREAMED)
+            if text is not None:
+                yield RecordStream(*_parted(text))
+                continue
             with self.stream(listed.offset, length=listed.length) as stream:
                 yield stream
 
@@ -134,8 +139,8 @@ class Archive:
         """Opens the record that begins at an offset, as `get` does, to be read in pieces.
 
         It needn't be read to its end. If it is, and the archive is damaged in it, the fault is raised at the end.
-        A member is unpacked to its end, however much follows the record. If the program is silent for more than
-        `seconds`, it is ended, and ReplyTooLate is raised.
+        A record of up to 1 MB is read at once. Of a longer one the program unpacks the member to its end, however much
+        follows the record. If it is silent for more than `seconds`, it is ended, and ReplyTooLate is raised.
         """
         text = self._text_at(offset, length, _MOST_STREAMED)
         if text is not None and usual_record(text) is not None:
@@ -170,6 +175,7 @@ class Archive:
 
         Raises NoRecord for an offset or a length that no record has, and the program refuses as an argument.
         """
+        offset, length = operator.index(offset), None if length is None else operator.index(length)
         if not (0 <= offset <= _MOST and 0 <= (length or 0) <= _MOST):
             raise NoRecord("NoRecord", self.path)
         only = () if length is None else ("--length", str(length))
@@ -184,10 +190,11 @@ class Archive:
         pass
 
     def _text_at(self, offset: int, length: Optional[int], most: int) -> Optional[bytes]:
-        """Returns the text of the record at an offset, of at most so many bytes, if no program is needed to find it.
+        """Returns the text of the record at an offset, or None if the program has to find it, or for a longer one.
 
-        Whether it is a record isn't looked at.
+        `most` is the number of bytes that it may have. Whether the text is a record isn't looked at.
         """
+        offset, length = operator.index(offset), None if length is None else operator.index(length)
         try:
             with ArchiveFile(self.path) as file:
                 if self._is_packed(file):
@@ -212,9 +219,11 @@ class Archive:
             first = [self._record_by_program(start)]
         except NoRecord:  # other bytes than a member are there, which have another fault in a list
             first = []
-        yield from first
+        start += len(first)
+        while first:
+            yield first.pop()
         for listed in self.list():
-            if listed.offset >= start + len(first):
+            if listed.offset >= start:
                 text = self._text_at(listed.offset, listed.length, MOST)
                 yield self._record_by_program(listed.offset, listed.length) if text is None else Record.read(text)
 

@@ -101,13 +101,14 @@ class Fault(Error):
         return f"{self.file}: {self.name}{place}" if self.file is not None else self.name + place
 
 
-_FAULT_AT = re.compile(r"warcdx(?:-gz)?: (.*): fault ([0-9]+) ([A-Za-z0-9]+)\n?", re.DOTALL)
-_LINE_AT = re.compile(r"warcdx(?:-gz)?: (.*): (BadLine|OutOfOrder) ([0-9]+)\n?", re.DOTALL)
-_QUERY = re.compile(r"warcdx(?:-gz)?: query: ([A-Za-z0-9]+)\n?")
-_FILE = re.compile(r"warcdx(?:-gz)?: (.*): ([A-Za-z0-9]+|cannot open)\n?", re.DOTALL)
-_ALONE = re.compile(r"warcdx(?:-gz)?: ([A-Za-z0-9]+|cannot flush)\n?")
-_ADVICE = re.compile(r"^  .*\n?", re.MULTILINE)  # the second line of a message
-_SYSTEM = re.compile(r"^  .*\(os error ([0-9]+)\)$", re.MULTILINE)  # the second line about a failed system call
+# What the program says. The expressions are compiled when one is needed first, as most runs of Python need none.
+_FAULT_AT = r"warcdx(?:-gz)?: (.*): fault ([0-9]+) ([A-Za-z0-9]+)\n?"
+_LINE_AT = r"warcdx(?:-gz)?: (.*): (BadLine|OutOfOrder) ([0-9]+)\n?"
+_QUERY = r"warcdx(?:-gz)?: query: ([A-Za-z0-9]+)\n?"
+_FILE = r"warcdx(?:-gz)?: (.*): ([A-Za-z0-9]+|cannot open)\n?"
+_ALONE = r"warcdx(?:-gz)?: ([A-Za-z0-9]+|cannot flush)\n?"
+_ADVICE = r"^  .*\n?"  # the second line of a message
+_SYSTEM = r"^  .*\(os error ([0-9]+)\)$"  # the second line about a failed system call
 _NAMES = {"cannot open": "CannotOpen", "cannot flush": "CannotFlush"}
 
 
@@ -129,22 +130,22 @@ def fault(
 
 def without_advice(said: str) -> str:
     """Returns what the program has said without the second lines of its messages, which begin with two spaces."""
-    return _ADVICE.sub("", said)
+    return re.sub(_ADVICE, "", said, flags=re.MULTILINE)
 
 
 def error_of(status: int, said: str) -> Error:
     """Returns what the program has reported on standard error before it ended."""
-    system = _SYSTEM.search(said)
+    system = re.search(_SYSTEM, said, re.MULTILINE)
     said = without_advice(said)
-    if found := _FAULT_AT.fullmatch(said):
+    if found := re.fullmatch(_FAULT_AT, said, re.DOTALL):
         return fault(found[3], found[1], int(found[2]))
-    if found := _LINE_AT.fullmatch(said):
+    if found := re.fullmatch(_LINE_AT, said, re.DOTALL):
         return fault(found[2], found[1], int(found[3]))
-    if found := _QUERY.fullmatch(said):
+    if found := re.fullmatch(_QUERY, said):
         return refused(found[1])
-    if found := _FILE.fullmatch(said):
+    if found := re.fullmatch(_FILE, said, re.DOTALL):
         return _fault_of_file(_NAMES.get(found[2], found[2]), found[1], system)
-    if found := _ALONE.fullmatch(said):
+    if found := re.fullmatch(_ALONE, said):
         return fault(_NAMES.get(found[1], found[1]))
     return ProgramEnded(status, said)
 

@@ -15,7 +15,7 @@ from collections.abc import Callable, Iterator
 from typing import IO, Any, Optional, Union
 
 from .ending import blocked
-from .errors import NO_STATUS, Error, Fault, ProgramMissing, ProgramTooOld, ReplyTooLate, error_of
+from .errors import NO_STATUS, Error, Fault, ProgramError, ProgramMissing, ProgramTooOld, ReplyTooLate, error_of
 from .streams import whole
 from .temporary import memory_file
 
@@ -25,6 +25,7 @@ PACKED = "warcdx-gz"  # the program that reads compressed archives too
 LEAST_VERSION = (0, 1, 0)
 _ROOM = 1 << 16  # bytes, more than the block of a file that the program has begun
 _PIECE = 1 << 20  # bytes of an output
+_SCARCE = (errno.EMFILE, errno.ENFILE, errno.EAGAIN)  # too many files or processes
 _PAUSE = 0.01  # seconds between two looks at a program that may end
 _HELP = re.compile(rb"(warcdx|warcdx-gz) ([0-9]+)\.([0-9]+)\.([0-9]+)")
 
@@ -69,7 +70,7 @@ def check_version(path: str) -> str:
             (path, "--help"), stdin=subprocess.DEVNULL, stdout=subprocess.PIPE, stderr=subprocess.DEVNULL
         )
     except OSError as error:
-        raise ProgramMissing(f"{path}: {error.strerror}") from error
+        raise _not_started(path, error) from error
     found = _HELP.match(done.stdout)
     if not found:
         raise ProgramMissing(f"{path}: not the program warcdx")
@@ -78,6 +79,14 @@ def check_version(path: str) -> str:
         need = ".".join(map(str, LEAST_VERSION))
         raise ProgramTooOld(f"{path}: version {'.'.join(map(str, version))}, but {need} is needed")
     return found[1].decode()
+
+
+def _not_started(path: str, error: OSError) -> Exception:
+    """Returns what is raised for a program that can't be started."""
+    if error.errno == errno.ENOMEM:
+        return MemoryError()
+    kind = ProgramError if error.errno in _SCARCE else ProgramMissing
+    return kind(f"{path}: {error.strerror}")
 
 
 def operand(path: Path) -> str:
@@ -144,9 +153,7 @@ def start(
     try:
         return Process(command, stdin=stdin, stdout=stdout, stderr=said, preexec_fn=before)
     except OSError as error:
-        if error.errno == errno.ENOMEM:
-            raise MemoryError from error
-        raise ProgramMissing(f"{command[0]}: {error.strerror}") from error
+        raise _not_started(command[0], error) from error
     except subprocess.SubprocessError as error:  # the new process had no memory to do what it does first
         raise MemoryError from error
 

@@ -73,8 +73,7 @@ class Page:
         return self.captures[number]
 
 
-@dataclass(frozen=True)
-class Query:
+class Query(NamedTuple):
     """The pieces of a query text, each `name=value`, encoded."""
 
     pieces: tuple[str, ...]

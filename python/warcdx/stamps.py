@@ -6,12 +6,11 @@ from typing import Optional, Union
 from .errors import refused
 
 Moment = Union[str, int, datetime.date, None]  # a datetime.datetime is a datetime.date
-_ISO = re.compile(
-    r"([0-9]{4})-([0-9]{2})(?:-([0-9]{2})(?:[T ]([0-9]{2}):([0-9]{2})(?::([0-9]{2})(?:[.,][0-9]+)?)?"
-    r"(Z|[+-][0-9]{2}:?[0-9]{2})?)?)?",
-    re.ASCII | re.IGNORECASE,
+_ISO = (
+    r"([0-9]{4})-([0-9]{2})(?:-([0-9]{2})(?:[Tt ]([0-9]{2}):([0-9]{2})(?::([0-9]{2})(?:[.,][0-9]+)?)?"
+    r"([Zz]|[+-][0-9]{2}:?[0-9]{2})?)?)?"
 )
-_DIGITS = re.compile("[0-9]{1,14}", re.ASCII)
+_DIGITS = "[0-9]{1,14}"
 
 
 def stamp_of(name: str, moment: Union[str, int, datetime.date]) -> str:
@@ -25,7 +24,7 @@ def stamp_of(name: str, moment: Union[str, int, datetime.date]) -> str:
     if isinstance(moment, datetime.date):
         return f"{moment.year:04}{moment.month:02}{moment.day:02}"
     text = str(moment).strip()
-    if _DIGITS.fullmatch(text):
+    if re.fullmatch(_DIGITS, text):
         return text
     found = _of_iso(text)
     if found is None:
@@ -34,7 +33,7 @@ def stamp_of(name: str, moment: Union[str, int, datetime.date]) -> str:
 
 
 def _of_iso(text: str) -> Optional[str]:
-    parts = _ISO.fullmatch(text)
+    parts = re.fullmatch(_ISO, text)
     if not parts:
         return None
     given = [part for part in parts.groups()[:6] if part is not None]

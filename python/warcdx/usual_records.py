@@ -45,7 +45,8 @@ def usual_head(text: bytes, start: int = 0) -> Optional[_Head]:
     version, *lines = head.decode(errors="surrogateescape").split("\r\n")
     if version not in _VERSIONS or len(head) - len(head.translate(None, _ODD)) != 2 * len(lines):
         return None  # another byte of these than those of the line breaks
-    fields = tuple([(name, value.strip(" \t")) for name, colon, value in [line.partition(":") for line in lines] if colon])
+    parts = [line.partition(":") for line in lines]
+    fields = tuple([(name, value.strip(" \t")) for name, colon, value in parts if colon])
     names = _names_of(fields) if len(fields) == len(lines) else ()
     if [names.count(name) for name in _MANDATORY] != [1, 1, 1, 1]:
         return None
@@ -179,7 +180,7 @@ class ArchiveFile:
         return None
 
     def _look(self, offset: int, least: int) -> int:
-        """Holds at least so many bytes from an offset on, if the file has them. Returns the index of the first one."""
+        """Holds `least` bytes or more from an offset on, if the file has them. Returns the index of the first one."""
         at = offset - self._start
         if not 0 <= at <= len(self._held) - least:
             self._held = os.pread(self._number, max(least, _AHEAD), offset)

@@ -21,7 +21,7 @@ sys.path[:0] = [str(ROOT / "tests"), str(ROOT / "python")]
 
 from case_runs import run_cases
 from choices import mostly
-from random_archives import archive, record, record_at_fault
+from random_archives import SAMPLES, archive, record, record_at_fault
 from random_changes import mutated
 from random_members import damaged, member
 from trial import Trial
@@ -30,19 +30,42 @@ from warcdx import Archive, CompressedArchive, Error, Fault, Record, open_archiv
 
 Place = tuple[int, Optional[int]]  # an offset and a length
 Found = Union[Record, bytes, str]
+# Changes of a record that is of the usual form but for one thing.
+ODD = (
+    (b"-09-19T", b"-02-30T"), (b"-22T", b"-31T"), (b"T17:20:24", b"T24:20:24"), (b"2016-", b"0000-"), (b"Content-Length: ", b"Content-Length: 000000000000000000"),
+    (b"Content-Length: ", b"Content-Length: -"), (b"Content-Length: ", b"Content-Length: 1"), (b"Content-Length", b"WARC-Type"),
+    (b"WARC/1.", b"WARC/2."), (b"WARC/1.", b"warc/1."), (b"WARC-Type", b"WARC-Date"), (b"WARC-Record-ID", b"X"), (b"WARC-Type", b"WARC-Type "),
+    (b"WARC-Type", b"W(RC-Type"), (b"WARC-Type", b"WARC-T\xc3\xa9"), (b"WARC-Type", b""), (b":", b""), (b": ", b":\0"), (b": ", b":\r"), (b": ", b":\n"),
+    (b": ", b":\r\n "), (b"\r\n", b"\n"), (b"\r\n", b"\r\n "), (b"\r\n\r\n", b"\r\n"), (b"\r\n\r\n", b"\r\n\r\n\r\n"), (b"\r\n\r\n", b"\r\n\n\r"),
+    (b"\r\n", b"\r\n:x\r\n"), (b"\r\n", b"\r\nwarc-type: a\r\n"), (b"\r\n", b"\r\nWARC-Date: 2016\r\n"), (b"\r\n\r\n", b"\r\n\r\nx"), (b"\r\n\r\n", b"\0\0\r\n"), (b"\r\n\r\n", b"\r\n--"),
+)  # fmt: skip
 ENDS = (b"x", b"\0" * 20, b"\x1f", b"\x1f\x8b", b"\r\n", b"WARC/1.1\r\n", b"WARC/1.1\r\n\r\n")
 
 
 def some_text(choice: random.Random) -> bytes:
-    """Most often a record; or one at fault, one that is changed, none, or two."""
+    """Most often a record; or an odd one, one at fault, one that is changed, none, or two."""
     kind = choice.random()
+    if kind < 0.5:
+        return usual(choice)
     if kind < 0.75:
-        return record(choice)
+        return odd(choice, usual(choice))
     if kind < 0.82:
         return record_at_fault(choice)
     if kind < 0.92:
         return mutated(choice, record(choice))
     return choice.choice((b"", record(choice) + record(choice), record(choice) + b"\0", record(choice)[:-1], choice.randbytes(30)))
+
+
+def usual(choice: random.Random) -> bytes:
+    """A record of a crawl, or one that is made, which isn't of the usual form as often."""
+    return mostly(choice, 0.5, choice.choice(SAMPLES), record(choice))
+
+
+def odd(choice: random.Random, text: bytes) -> bytes:
+    """A record with one of the changes, in its first place or in its last."""
+    old, new = choice.choice([change for change in ODD if change[0] in text])
+    at = text.index(old) if choice.random() < 0.7 else text.rindex(old)
+    return text[:at] + new + text[at + len(old) :]
 
 
 def some_member(choice: random.Random) -> bytes:
@@ -54,7 +77,7 @@ def some_archive(choice: random.Random) -> bytes:
     if choice.random() < 0.5:
         made = b"".join(some_member(choice) for _ in range(choice.randint(0, 5)))
     else:
-        made = archive(choice, 5, share_at_fault=0.3)
+        made = archive(choice, 5, share_at_fault=0.3) if choice.random() < 0.5 else b"".join(some_text(choice) for _ in range(choice.randint(1, 4)))
     if choice.random() < 0.3:
         made = mutated(choice, made)
     if choice.random() < 0.1:
@@ -104,6 +127,18 @@ def streamed(archive: Archive, offset: int, length: Optional[int]) -> bytes:
         return b"".join(stream.whole())
 
 
+def count_asks(archive: Archive) -> list[int]:
+    """Returns the offsets at which an archive asks the program for a record, as they come."""
+    ask, offsets = archive._record_by_program, []
+
+    def counted(offset: int, length: Optional[int] = None) -> Record:
+        offsets.append(offset)
+        return ask(offset, length)
+
+    archive._record_by_program = counted  # type: ignore[method-assign]
+    return offsets
+
+
 def some_places(choice: random.Random, archive: Archive, size: int) -> list[Place]:
     """Places of records, as they are and otherwise, and places of anything else."""
     try:
@@ -118,7 +153,9 @@ def some_places(choice: random.Random, archive: Archive, size: int) -> list[Plac
 
 
 def expect_same(trial: Trial, here: Archive, asked: Archive, size: int) -> None:
+    asks = count_asks(here)
     found, wanted = all_of(here), all_of(asked)
+    trial.tally["places at which an iteration asks the program"] += len(asks)
     trial.check(found == wanted, f"{here.path} has {found!s:.1500}\nand by the program {wanted!s:.1500}")
     trial.tally["records"] += sum(isinstance(each, Record) for each in found)
     trial.tally[f"archive: {str(found[-1]).split()[0] if found and isinstance(found[-1], str) else 'whole'}"] += 1

@@ -158,7 +158,7 @@ Examples:
   warcdx-gz index crawl.warc.gz > crawl.cdxj
   warcdx-gz index crawl-1.warc.gz crawl-2.warc > crawl.cdxj
   warcdx-gz index --types response,metadata crawl.warc.gz > crawl.cdxj
-  ssh host cat crawl.warc.gz | warcdx-gz index --name crawl.warc.gz - > crawl.cdxj
+  ssh host cat a.warc.gz | warcdx-gz index --name a.warc.gz - > a.cdxj
 
 Exit status:
   0  everything was indexed

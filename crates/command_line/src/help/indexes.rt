@@ -1,4 +1,4 @@
-//! Help for the commands that read indexes. The pages of both programs differ in the program's name.
+//! Help for the commands that read indexes. The pages of both programs differ in the name alone.
 use super::Page;
 
 macro_rules! merge_page {
