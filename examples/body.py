@@ -4,8 +4,8 @@
 usage: body.py < RECORD > BODY
 
 RECORD is one record, as `warcdx get` writes it. If its type of content is application/http, the
-body is what follows the HTTP head in the block, and chunks, gzip and deflate are undone. Of any
-other record, the body is the block.
+body is what follows the HTTP head in the block, and chunks, gzip, deflate and br are undone. Of
+any other record, the body is the block.
 
 Stands on the Python package of this repository. Record and body are held in memory. The exit status
 is 0; 1 if the record or a coding can't be read, and then nothing is written; 2 after a usage error; or

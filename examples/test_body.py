@@ -48,6 +48,7 @@ def raw_deflate(body: bytes) -> bytes:
 
 
 PACKED = gzip.compress(TEXT)
+ZSTD = b"\x28\xb5\x2f\xfd\x20\x03\x19\x00\x00abc"  # RFC 8878: `abc`, not compressed
 # A case, the record, and the body. Without a body the record has to be refused.
 CASES: tuple[tuple[str, bytes, Optional[bytes]], ...] = (
     ("as it is stored", response((), TEXT), TEXT),
@@ -68,18 +69,21 @@ CASES: tuple[tuple[str, bytes, Optional[bytes]], ...] = (
     ("gzip in chunks", response((GZIP, CHUNKED), chunks(PACKED, 100)), TEXT),
     ("gzip in chunks, in one field", response((BOTH,), chunks(PACKED, 100)), TEXT),
     ("gzip twice", response((GZIP, GZIP), gzip.compress(PACKED)), TEXT),
+    ("no HTTP head", record(b"abc"), b"abc"),
+    ("a name that is no coding", response(("Content-Encoding: UTF-8",), TEXT), TEXT),
+    ("chunks that aren't there", response((CHUNKED,), TEXT), TEXT),
+    ("gzip that isn't there", response((GZIP,), TEXT), TEXT),
+    ("gzip with something after it", response((GZIP,), PACKED + b"abc"), TEXT),
     ("no input", b"", None),
     ("no record", b"abc\r\n\r\nabc\r\n\r\n", None),
     ("a record that is cut", response((), TEXT)[:200], None),
-    ("no HTTP head", record(b"abc"), None),
-    ("an unknown coding", response(("Content-Encoding: br",), TEXT), None),
-    ("chunks that aren't there", response((CHUNKED,), TEXT), None),
+    ("an HTTP head that is cut", record(b"HTTP/1.1 200 OK\r\n"), None),
+    ("a coding that can't be undone", response(("Content-Encoding: zstd",), ZSTD), None),
     ("chunks that are cut", response((CHUNKED,), chunks(TEXT, 1000)[:2500]), None),
     ("chunks without the last one", response((CHUNKED,), chunks(TEXT, 1000)[:-5]), None),
-    ("a chunk that is too long", response((CHUNKED,), b"F" * 18 + b"\r\nabc\r\n0\r\n\r\n"), None),
+    ("a chunk that is too long", response((CHUNKED,), b"F" * 15 + b"\r\nabc\r\n0\r\n\r\n"), None),
     ("gzip that is cut", response((GZIP,), PACKED[:-9]), None),
     ("gzip that is damaged", response((GZIP,), PACKED[:-6] + b"xx" + PACKED[-4:]), None),
-    ("gzip with something after it", response((GZIP,), PACKED + b"abc"), None),
 )
 
 
