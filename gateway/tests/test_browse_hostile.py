@@ -172,7 +172,8 @@ class Records(support.Pages):
         html = f"<meta http-equiv=refresh content='0;url=http://evil.example/'>{SCRIPT}".encode()
         svg = b"<svg xmlns='http://www.w3.org/2000/svg'><script>1</script></svg>"
         quotes = 'text/html"; charset="x\r\nX-Injected: 1'
-        packed, cut = gzip.compress(self.bomb), gzip.compress(html)[:-4]
+        cut = gzip.compress(html)[:-4]
+        nothing = gzip.compress(gzip.compress(gzip.compress(b"") * 4_000_000))  # in members
         controls = ["X\0-Name\x1b: a\rb\x7f", "\udcff: \udcfe", "No colon", MARKUP]
         pointers = [
             f"WARC-Payload-Digest: sha1:{MARKUP}&key=x",
@@ -199,11 +200,13 @@ class Records(support.Pages):
             "many": response(HOME + "many", date, html, http=many),
             "controls": response(HOME + "controls", date, html, http=controls),
             "bomb": coded("bomb", self.bomb, "gzip"),
-            "nested": coded("nested", packed, "gzip, gzip, gzip"),
+            "nested": coded("nested", nothing, "gzip, gzip, gzip"),
             "codings": coded("codings", html, "gzip," * 20_000),
-            "unknown": coded("unknown", html, "br"),
+            "unknown": coded("unknown", b"\x28\xb5\x2f\xfd" + html, "zstd"),
+            "otherwise": coded("otherwise", html, f"gzip, zstd, {MARKUP}"),
             "cut": coded("cut", cut, "gzip"),
             "no-head": record("response", HOME + "no-head", date, b"\0" * 9, http),
+            "cut-head": record("response", HOME + "cut-head", date, b"HTTP/1.1 200 OK\r\nA:", http),
             "changed": digested("changed", "sha1:" + "A" * 32),
             "no-digest": digested("no-digest", MARKUP),
             "revisit": record("revisit", HOME, date, b"", "application/http", pointers),
@@ -344,12 +347,14 @@ class Records(support.Pages):
 
     def test_codings_that_can_not_be_undone_are_said(self) -> None:
         for name, words in (
-            ("unknown", "The coding 'br' isn't known."),
-            ("cut", "The compressed body is cut."),
-            ("no-head", "The block has no HTTP head."),
+            ("unknown", "The coding 'zstd' can't be undone."),
+            ("cut", "The body is cut."),
+            ("cut-head", "The HTTP head doesn't end."),
+            ("no-head", "The payload has 9 bytes"),
+            ("otherwise", f"that the record is stored without: {MARKUP.lower()}, zstd, gzip."),
         ):
             self.assertIn(words, text_of(self.shown(name)))
-        for name in ("unknown", "no-head"):
+        for name in ("unknown", "cut-head"):
             found = text_of(
                 self.get("download", 422, what="payload", **self.named(name))
             )
@@ -385,7 +390,7 @@ class Records(support.Pages):
             for each in downloads:
                 each.close()
             for _ in range(6):
-                self.get("download", 422, what="payload", **self.named("no-head"))
+                self.get("download", 422, what="payload", **self.named("cut-head"))
             self.assertEqual(200, self.ask("download", what="payload", **query).status_code)
 
 if __name__ == "__main__":

@@ -1,4 +1,5 @@
 """Memento: the requests and answers of RFC 7089, over the captures of the RFC's examples."""
+import importlib.util
 import random
 import re
 import unittest
@@ -16,6 +17,7 @@ from warcdx_gateway.browse.raw_captures import archived_fields
 from warcdx_gateway.history import History, nearest_of
 from warcdx_gateway.memento import timestamp_of
 
+HAS_BROTLI = importlib.util.find_spec("brotli") is not None
 ORIGINAL = "http://a.example.org/"
 ROOT = "http://localhost/web"
 # The mementos of the examples of sections 4.2.1 and 5.
@@ -228,6 +230,16 @@ class Examples(support.Pages):
 PAGE = "http://example.com/page?a=b&c=%20d"
 DATE, LATER = "2016-03-03T09:34:31Z", "2017-01-01T00:00:00Z"
 BODY = b"<script>top.hacked = 1</script><p>text"
+BROTLI = b"\x8b\x01\x80text\x03"  # RFC 7932: `text`, not compressed
+# Bodies that are stored otherwise than their heads say.
+OTHERWISE = {
+    "unpacked": (b"text", "gzip"),
+    "twice": (support.gzip.compress(b"text", mtime=0), "gzip, gzip"),
+    "charset": (b"text", "UTF-8"),
+    "none": (b"text", "none"),
+    "foreign": (b"text", "zstd"),
+    "nothing": (b"", "gzip"),
+}
 
 
 class Raw(support.Pages):
@@ -244,7 +256,6 @@ class Raw(support.Pages):
             "WARC-Refers-To-Target-URI: http://example.com/gone",
             f"WARC-Refers-To-Date: {DATE}",
         ]
-        brotli = b"\x0b\x02\x80text\x03"
         many = [f"X-Many-{number}: {'v' * 500}" for number in range(500)]
         archives.add("a.warc", [
             response(PAGE, DATE, BODY, http=fields),
@@ -268,7 +279,14 @@ class Raw(support.Pages):
                 "http://example.com/chunks", DATE, chunked, http=["Transfer-Encoding: chunked"]
             ),
             response("http://example.com/packed", DATE, packed, http=["Content-Encoding: gzip"]),
-            response("http://example.com/brotli", DATE, brotli, http=["Content-Encoding: br"]),
+            response("http://example.com/brotli", DATE, BROTLI, http=["Content-Encoding: br"]),
+            *(
+                response(f"http://example.com/{name}", DATE, body, http=[f"{coding}: {codings}"])
+                for name, (body, codings) in OTHERWISE.items()
+            ),
+            response(
+                "http://example.com/unchunked", DATE, b"text", http=["Transfer-Encoding: chunked"]
+            ),
             response("http://example.com/hostile", DATE, b"x", http=[f"{coding}: a\x1b b\x7f"]),
             response("http://example.com/codings", DATE, b"x", http=[f"{coding}: {'gzip,' * 999}"]),
             response("http://example.com/many", DATE, b"many", http=many),
@@ -276,6 +294,7 @@ class Raw(support.Pages):
             response("http://example.com/empty", DATE, b"", status="304 Not Modified"),
             response("http://example.com/large", DATE, b"x" * 3_000_000, "text/plain"),
             record("resource", "http://example.com/note", DATE, b"a note", "text/plain"),
+            record("response", "http://example.com/old", DATE, b"<p>old", "application/http"),
             revisit("http://example.com/lost", DATE, b"lost"),
             record("revisit", "http://example.com/gone", LATER, b"", "text/plain", unmodified),
         ])  # fmt: skip
@@ -314,6 +333,12 @@ class Raw(support.Pages):
             answer = self.raw(f"http://example.com/{name}")
             self.assertEqual((status, data), (answer.status_code, answer.data), name)
             self.assertIn("Memento-Datetime", answer.headers)
+
+    def test_a_capture_without_an_http_header_is_a_payload(self) -> None:
+        answer = self.raw("http://example.com/old")  # as of HTTP/0.9
+        wanted = (200, b"<p>old", "application/octet-stream")
+        found = answer.status_code, answer.data, answer.headers["Content-Type"]
+        self.assertEqual(wanted, found)
 
     def test_a_redirect_goes_to_the_capture_of_its_target(self) -> None:
         answer = self.raw("http://example.com/moved")
@@ -357,13 +382,29 @@ class Raw(support.Pages):
         answer = self.raw(packed)
         self.assertEqual((None, BODY), (answer.headers.get("Content-Encoding"), answer.data))
         self.assertEqual("Accept-Encoding", answer.headers["Vary"])
-        answer = self.raw("http://example.com/brotli")
-        self.assertEqual("br", answer.headers["Content-Encoding"])
-        self.assertEqual(b"\x0b\x02\x80text\x03", answer.data)
-        answer = self.raw("http://example.com/hostile")
-        self.assertEqual("a b", answer.headers["Content-Encoding"])
         answer = self.raw("http://example.com/codings", Accept_Encoding="gzip")
-        self.assertEqual(502, answer.status_code)
+        self.assertEqual(422, answer.status_code)
+
+    @unittest.skipUnless(HAS_BROTLI, "the module brotli is missing")
+    def test_brotli_is_a_coding_like_others(self) -> None:
+        for headers, wanted in (({"Accept_Encoding": "br"}, ("br", BROTLI)), ({}, (None, b"text"))):
+            answer = self.raw("http://example.com/brotli", **headers)
+            self.assertEqual(wanted, (answer.headers.get("Content-Encoding"), answer.data))
+
+    def test_brotli_may_be_missing(self) -> None:
+        with mock.patch.dict("sys.modules", {"brotli": None}):
+            for headers in ({"Accept_Encoding": "br"}, {}):
+                answer = self.raw("http://example.com/brotli", **headers)
+                self.assertEqual(422, answer.status_code)
+                self.assertIn("python3-brotli", answer.text)
+
+    def test_no_client_is_told_of_a_coding_that_the_payload_has_not(self) -> None:
+        for accepted in ("gzip, br, zstd, *", "gzip", ""):
+            for name in (*OTHERWISE, "unchunked", "hostile"):
+                answer = self.raw(f"http://example.com/{name}", Accept_Encoding=accepted)
+                self.assertNotIn("Content-Encoding", answer.headers, name)
+                wanted = {"nothing": b"", "hostile": b"x"}.get(name, b"text")
+                self.assertEqual((200, wanted), (answer.status_code, answer.data), name)
 
     def test_archived_fields_are_bounded(self) -> None:
         answer = self.raw("http://example.com/many")

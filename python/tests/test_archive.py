@@ -74,9 +74,27 @@ class Archives(Case):
 
 
 class Records(Case):
+    def test_dates(self) -> None:
+        for text, wanted in (
+            ("2016-09-19T17:20:24Z", "2016-09-19T17:20:24+00:00"),
+            ("2016-09-19T17:20:24.5Z", "2016-09-19T17:20:24.500000+00:00"),
+            ("2016-09-19T17:20:24.123456789Z", "2016-09-19T17:20:24.123456+00:00"),
+        ):
+            date = Record((("WARC-Date", text),), b"").date
+            self.assertEqual(wanted, date and date.isoformat())
+        for text in ("", "2016", "2016-02-30T00:00:00Z", "2016-09-19T17:20:24", "2016-09-19T17:20:24.Z", "20160919172024", "2016-09-19T25:00:00Z", "٢٠١٦-09-19T17:20:24Z"):
+            self.assertIsNone(Record((("WARC-Date", text),), b"").date, text)
+
+    def test_a_record_of_http_has_its_head(self) -> None:
+        record = Record.read(response(b"A: b\r\n", b"body"))
+        assert record.http is not None
+        self.assertEqual((200, "OK", "b", b"body"), (record.http.status, record.http.reason, record.http.field("a"), record.payload()))
+        other = Record((("WARC-Type", "resource"), ("Content-Type", "text/plain")), b"HTTP/1.1 200 OK\r\n\r\nbody")
+        self.assertEqual((None, other.block, ()), (other.http, other.payload(), other.stored_otherwise))
+
     def test_a_field_may_be_continued(self) -> None:
         record = Record.read(response(b"", b"body"))
-        self.assertEqual(("a b", None, "response"), (record.field("x"), record.field("y"), record.kind))
+        self.assertEqual(("a b", None, "response", "response"), (record.field("x"), record.field("y"), record.kind, record.type))
 
     def test_codings_are_undone(self) -> None:
         body = bytes(range(256)) * 99
@@ -102,11 +120,8 @@ class Records(Case):
             b"",
             b"WARC/1.0\r\n\r\n",
             response(b"Transfer-Encoding: chunked\r\n", b"5\r\nabc"),
-            response(b"Transfer-Encoding: chunked\r\n", b"-5\r\nabc"),
             response(b"Content-Encoding: gzip\r\n", gzip.compress(b"body")[:-1]),
-            response(b"Content-Encoding: gzip\r\n", b"plain text"),
-            response(b"Content-Encoding: br\r\n", b"\x8b"),
-            HEAD + b"no head\r\n\r\n",
+            HEAD + b"HTTP/1.1 200 OK\r\nA: b\r\n\r\n",
         ):
             self.raises(Unreadable, payload, record)
 

@@ -9,7 +9,8 @@ import unittest.mock
 import zlib
 
 from warcdx import Archive, Capture, Collection, CompressedArchive, Fault, NoArchive, faults
-from warcdx.record import HEAD_LIMIT, Head, _unfolded, fields_named
+from warcdx.http_messages import unfolded
+from warcdx.record import HEAD_LIMIT, Head, fields_named
 from warcdx.record_digests import _READ, RecordCheck
 
 from .support import PROGRAM, Case, packed, resource
@@ -109,7 +110,7 @@ def with_colons(head: bytes) -> Head:
 
 
 def unfolded_lines(head: bytes) -> "list[str]":
-    return _unfolded(head.decode(errors="surrogateescape").split("\r\n"))[1:]
+    return unfolded(head.decode(errors="surrogateescape").split("\r\n"))[1:]
 
 
 class Causes(Case):

@@ -11,9 +11,10 @@ from collections.abc import Callable
 from typing import NamedTuple
 
 from warcdx.cdx import BadRow, _cdx_line, _rows
-from warcdx.codings import Unreadable, codings, decoded
+from warcdx.codings import Unreadable
 from warcdx.errors import error_of
-from warcdx.record import Head, HttpHead, Record, payload
+from warcdx.http_messages import HttpHead, Message
+from warcdx.record import Head, Record, payload
 from warcdx.reply import refusal_of, text_of
 from warcdx.url_keys import _LINE
 
@@ -37,7 +38,16 @@ class Shape(NamedTuple):
 
 
 def body_of(head: bytes) -> Callable[[bytes], object]:
-    return lambda body: b"".join(decoded(head, iter((body,))))
+    return lambda body: b"".join(Message(iter((head + b"\r\n\r\n", body)), True).payload())
+
+
+def codings_of(head: bytes) -> list[str]:
+    found = HttpHead.of(head)
+    return [*found.transfer_codings, *found.content_codings, found.reason]
+
+
+def head_of(block: bytes) -> object:
+    return Message(iter((block,)), True).head
 
 
 def rows_of(text: bytes) -> None:
@@ -46,7 +56,7 @@ def rows_of(text: bytes) -> None:
 
 
 CHUNKED = body_of(b"HTTP/1.1 200\r\nTransfer-Encoding: chunked")
-GZIP = body_of(b"HTTP/1.1 200\r\nContent-Encoding: gzip")
+GZIP, DEFLATE, BR = (body_of(b"HTTP/1.1 200\r\nContent-Encoding: " + each) for each in (b"gzip", b"deflate", b"br"))
 LINE_BREAKS = (b" \r\n", b"\r\n ", b"\r\n \r\n", b"\n", b"\n ", b" \n", b"\r", b"\r\r\n ")
 BLANKS = (b" ", b"\t", b" \t", b"a ", *LINE_BREAKS, b":", b"x: y\r\n")
 CODINGS = (b",", b" ", b"Content-Encoding: a,\n", b"Content-Encoding:,\n", b":\n")
@@ -56,10 +66,16 @@ SHAPES = (
     *(Shape(HttpHead.of, b"HTTP/1.1 200\r\nX: a", each, after) for each in BLANKS for after in (b"", b"b")),
     *(Shape(Record.read, FIRST + b"X: a", each, b"\r\n\r\nblock\r\n\r\n") for each in BLANKS),
     *(Shape(payload, FIRST + b"Content-Type: application/http\r\n\r\n", each, b"\r\n\r\n") for each in BLANKS),
-    *(Shape(codings, b"HTTP/1.1 200\r\n", each) for each in CODINGS),
+    *(Shape(codings_of, b"HTTP/1.1 200\r\n", each) for each in CODINGS),
+    *(Shape(codings_of, b"HTTP/1.1", each, b" 200") for each in (b" ", b" 2", b"1", b"\t2000", b"/")),
+    *(Shape(codings_of, b"HTTP/1.1 200\r\nTransfer-Encoding: ", each) for each in (b"chunked,", b"gzip ,", b";", b"a;", b" ,")),
+    *(Shape(head_of, before, each, b"x") for before in (b"", b"HTTP/1.1 200\r\n") for each in (b"\r\n", b"\n", b"\r", b"a", b" ", b" HTTP/", b"\r\na", b"HTTP ", b"ICY ")),
     *(Shape(CHUNKED, b"", each) for each in (b" ", b"1", b"1 ", b"1;", b"1\r", b"1\r\na\r\n", b"1;;\r\na\r\n", b"0")),
     *(Shape(CHUNKED, b"1 ", each, b"x") for each in (b" ", b";", b"\r")),
+    *(Shape(CHUNKED, b"1\r\na", each) for each in (b"\r\n", b"\n", b"\r", b"1", b" ", b"\r\n1", b"\r\n1;")),
     Shape(GZIP, b"", bytes.fromhex("1f8b08000000000000030300000000000000000000")[:20]),
+    *(Shape(read, b"", each) for read in (GZIP, DEFLATE, BR) for each in (b"\x1f", b"\x1f\x8b", b"\x78\x9c", b"\x03\x00", b"\x00", b"[", b"\x3b", b"a")),
+    Shape(GZIP, bytes.fromhex("1f8b08000000000000030300000000000000000000")[:20], b"x"),
     *(Shape(lambda text: error_of(3, text.decode()), b"warcdx: ", each, b"\n\n") for each in SAID),
     *(Shape(rows_of, b" CDX a b g V", each, b"\n") for each in (b" ", b" a")),
     *(Shape(rows_of, b"k 20160101000000 http://a/ t 200 - - - - 0 ", each, b"\n") for each in (b" ", b"a", b"%", b"\xff")),
@@ -113,6 +129,11 @@ def field_of(line: str) -> tuple[str, str]:
     return name, value.strip(" \t")
 
 
+def http_field_of(line: str) -> tuple[str, str]:
+    name, value = field_of(line)
+    return name.strip(" \t"), value
+
+
 class Folds(unittest.TestCase):
     def test_heads_are_unfolded_as_by_the_expressions(self) -> None:
         for length in range(8):
@@ -121,7 +142,7 @@ class Folds(unittest.TestCase):
                 _, *lines = FOLD.sub(" ", f"WARC/1.1\r\n{text}").split("\r\n")
                 self.assertEqual(tuple(map(field_of, lines)), Head.fields_of(FIRST + text.encode()), repr(text))
                 line, *lines = re.split(r"\r?\n", HTTP_FOLD.sub(" ", text))
-                self.assertEqual(HttpHead(tuple(map(field_of, lines)), line), HttpHead.of(text.encode()), repr(text))
+                self.assertEqual(HttpHead(tuple(map(http_field_of, lines)), line), HttpHead.of(text.encode()), repr(text))
 
 
 if __name__ == "__main__":

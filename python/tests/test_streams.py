@@ -7,8 +7,8 @@ import zlib
 from collections.abc import Iterator
 
 from warcdx import Archive, CompressedArchive, Unreadable, faults, open_archive, payload
-from warcdx.codings import Buffer, Limits, decoded
-from warcdx.record import HttpHead
+from warcdx.codings import UNLIMITED, Limits
+from warcdx.http_messages import HttpHead, Message
 
 from .support import PROGRAM, SAMPLES, Case
 
@@ -31,6 +31,10 @@ def pieces(text: bytes, size: int) -> Iterator[bytes]:
 
 def head(*fields: str) -> bytes:
     return "\r\n".join(("HTTP/1.1 200 OK", *fields)).encode()
+
+
+def decoded(named: bytes, body: Iterator[bytes], limits: Limits = UNLIMITED) -> Iterator[bytes]:
+    return Message(itertools.chain((named + b"\r\n\r\n",), body), True).payload(limits)
 
 
 class Streams(Case):
@@ -145,14 +149,14 @@ class Codings(unittest.TestCase):
         for end in (b"\r\n\r\n", b"\n\n", b"\n\r\n"):
             text = b"HTTP/1.1 200 OK\r\nA: b" + end + b"\r\n\r\nbody"
             for size in range(1, len(text) + 1):
-                buffer = Buffer(pieces(text, size))
-                self.assertEqual(b"HTTP/1.1 200 OK\r\nA: b", buffer.head())
-                self.assertEqual(b"\r\n\r\nbody", b"".join(buffer.rest()))
+                message = Message(pieces(text, size), True)
+                self.assertEqual(b"HTTP/1.1 200 OK\r\nA: b", message.head_text)
+                self.assertEqual(b"\r\n\r\nbody", b"".join(message.payload()))
 
     def test_a_block_without_a_head_has_none(self) -> None:
         for text in (b"", b"abc", b"HTTP/1.1 200 OK\r\n"):
-            self.assertIsNone(Buffer(pieces(text, 2)).head())
-        self.assertIsNone(Buffer(pieces(b"x" * (3 * MEGABYTE), 1 << 16)).head())
+            self.assertIsNone(Message(pieces(text, 2), True).head_text)
+        self.assertIsNone(Message(pieces(b"x" * (3 * MEGABYTE), 1 << 16), True).head_text)
 
     def test_an_empty_body_has_no_coding(self) -> None:
         for coding in ("br", "gzip", "chunked", "deflate"):
@@ -182,7 +186,7 @@ class Codings(unittest.TestCase):
         for _ in range(8):
             body = gzip.compress(body)
         self.assertEqual(b"body", b"".join(decoded(head("Content-Encoding: " + ", ".join(["gzip"] * 8)), iter([body]))))
-        with self.assertRaises(Unreadable):
+        with self.assertRaisesRegex(Unreadable, "more than 8 codings"):
             decoded(head("Content-Encoding: " + ", ".join(["gzip"] * 9)), iter([body]))
 
     def test_many_small_chunks_take_time_in_proportion(self) -> None:

@@ -103,6 +103,7 @@ class Records(unittest.TestCase):
         self.assertEqual("differs differs", verdicts(good.replace(b"\r\n\r\nabc", b"\r\n\r\nabd")))
         self.assertEqual("absent same", verdicts(http(HTTP.replace(b"\r", b"") + b"abc", None, OF_ABC[3])))
         self.assertEqual("absent same", verdicts(http(HTTP, None, SHA1_OF_NOTHING)))
+        self.assertEqual("absent same", verdicts(http(b"\r\n" + HTTP + b"abc", None, OF_ABC[3])))
 
     def test_the_payload_of_another_record_is_its_block(self) -> None:
         self.assertEqual("same same", verdicts(record(HTTP + b"abc", sha1_of(HTTP + b"abc"), sha1_of(HTTP + b"abc"))))
@@ -112,6 +113,13 @@ class Records(unittest.TestCase):
         body = b"2\r\nab\r\n1\r\nc\r\n0\r\n\r\n"
         for payload in (sha1_of(body), *OF_ABC):
             self.assertEqual("absent same", verdicts(http(CHUNKED + body, None, payload)), payload)
+        for field in (b"\r\n chunked", b" identity, chunked", b" chunked\r\nTransfer-Encoding: chunked", b"chunked;a=b"):
+            named = HTTP[:-2] + b"Transfer-Encoding :" + field + b"\r\n\r\n"
+            self.assertEqual("absent same", verdicts(http(named + body, None, OF_ABC[3])), field)
+        packed = gzip.compress(b"abc")
+        named = CHUNKED.replace(b"Chunked", b"gzip, chunked")
+        for payload in (sha1_of(b"%x\r\n%b\r\n0\r\n\r\n" % (len(packed), packed)), OF_ABC[3]):
+            self.assertEqual("absent same", verdicts(http(named + b"%x\r\n%b\r\n0\r\n\r\n" % (len(packed), packed), None, payload)))
         self.assertEqual("absent differs", verdicts(http(HTTP + body, None, OF_ABC[3])))
         # One that is named as in chunks and isn't, as browsers give it.
         self.assertEqual("absent same", verdicts(http(CHUNKED + b"abc", None, OF_ABC[3])))
@@ -155,8 +163,13 @@ class Records(unittest.TestCase):
                 self.assertEqual("absent same", verdicts(http(CHUNKED + body, None, sha1_of(body)), size), body[:20])
 
     def test_a_block_without_the_end_of_an_http_head_is_unknown(self) -> None:
-        for block in (b"", b"abc", b"HTTP/1.1 200 OK\r\nA: b\r\n", b"x" * 1_100_000):
+        for block in (b"HTTP/1.1 200 OK\r\nA: b\r\n", b"HTTP/1.1 200 OK\r\nA: " + b"x" * 1_100_000):
             self.assertEqual("same unknown", verdicts(http(block, sha1_of(block), sha1_of(block))))
+
+    def test_a_block_without_an_http_head_is_a_payload_if_its_digest_says_so(self) -> None:
+        for block in (b"", b"abc", b"<p>\n\nabc", b"x" * 1_100_000):
+            self.assertEqual("same same", verdicts(http(block, sha1_of(block), sha1_of(block))))
+            self.assertEqual("same unknown", verdicts(http(block, sha1_of(block), sha1_of(b"other"))))
 
 
 class Files(Case):

@@ -1,25 +1,28 @@
-"""The codings of HTTP bodies, undone piece by piece, so that a body of any length takes bounded memory."""
+"""The codings of HTTP bodies, undone piece by piece, so that a body of any length takes bounded memory.
+
+Archives have bodies without codings that their heads name: the crawler has undone them. So a coding is undone only if
+the body begins with it. A body that begins with a coding, and isn't of it later, is damaged.
+"""
 import re
 import time
 import zlib
-from collections.abc import Callable, Iterator
+from collections.abc import Callable, Iterable, Iterator, Sequence
 from dataclasses import dataclass
-from typing import Optional
+from typing import Any, Optional, Union
 
 from .errors import Error
 
-HEAD_LIMIT = 1 << 20  # bytes of an HTTP head
 MOST_CODINGS = 8  # of one body
-PIECE = 1 << 16  # bytes that are unpacked at once, at most
+PIECE = 1 << 16  # bytes that are read and unpacked at once, at most
 _PACKED = 1 << 13  # bytes that are unpacked from at once: what follows a member is copied
+_PACKED_BY_BROTLI = 16  # the same for the module brotli, which has no bound: 13 bytes may unpack to 16 MB
+_TRIED = 512  # bytes from the start of a body that show whether it unpacks, if its coding begins with no certain ones
 _MOST_LINE = 1 << 14  # bytes of the line before a chunk
-_END_OF_HEAD = re.compile(rb"\r?\n\r?\n")
-_CHUNK_HEAD = re.compile(rb"([0-9A-Fa-f]{1,15})[ \t]*(?:;[^\r\n]*)?\r?\n")
-_CHUNK_END = re.compile(rb"\r?\n")
-_GZIP_OR_ZLIB = 32 + zlib.MAX_WBITS
-_DEFLATE_ALONE = -zlib.MAX_WBITS
-
-Pieces = Iterator[bytes]  # none of them empty
+_GZIP = b"\x1f\x8b"
+_CHUNK_HEAD = rb"([0-9A-Fa-f]{1,15})[ \t]*(?:;[^\r\n]*)?\r?\n"
+_FIRST_CHUNK, _NEXT_CHUNK = re.compile(_CHUNK_HEAD), re.compile(rb"\r?\n" + _CHUNK_HEAD)
+# Codings that can't be undone here, and what their texts begin with.
+FOREIGN = {"compress": b"\x1f\x9d", "x-compress": b"\x1f\x9d", "zstd": b"\x28\xb5\x2f\xfd"}
 
 
 class Unreadable(Error):
@@ -37,169 +40,296 @@ class Limits:
     size: Optional[int] = None
     seconds: Optional[float] = None
 
-    def start(self) -> Callable[[Pieces], Pieces]:
-        """Returns a function that gives pieces as they are, and counts those of all its calls."""
-        size, end, taken = self.size, self.seconds and time.monotonic() + self.seconds, 0
-
-        def count(pieces: Pieces) -> Pieces:
-            nonlocal taken
-            for piece in pieces:
-                taken += len(piece)
-                if size is not None and taken > size:
-                    raise Unreadable("the body is longer than is allowed, or unpacks to more")
-                if end is not None and time.monotonic() > end:
-                    raise Unreadable("the body takes longer to unpack than is allowed")
-                yield piece
-
-        return count
-
 
 UNLIMITED = Limits()
 
 
-class Buffer:
-    """Pieces that are read by lines and by counts."""
+class Decoder:
+    """Undoes the codings of a body that is fed in pieces.
 
-    def __init__(self, pieces: Pieces) -> None:
-        self._pieces = pieces
-        self._held = b""
-        self._at = 0  # where in it the bytes begin that weren't taken
+    `names` are the codings in lower case, the last one that was applied first. What is yielded for a piece is taken
+    before the next one is fed. Raises Unreadable for a body that is damaged or beyond the limits.
+    """
 
-    def match(self, pattern: "re.Pattern[bytes]", most: int) -> Optional["re.Match[bytes]"]:
-        """Takes the line that comes next, if it matches. Returns None if not, or if it has more than `most` bytes."""
-        while len(self._held) - self._at < most and self._held.find(b"\n", self._at) < 0:
-            piece = next(self._pieces, b"")
-            if not piece:
-                break
-            self._held, self._at = self._held[self._at :] + piece, 0
-        found = pattern.match(self._held, self._at)
-        if found:
-            self._at = found.end()
-        return found
+    def __init__(self, names: Sequence[str], limits: Limits = UNLIMITED) -> None:
+        if len(names) > MOST_CODINGS:
+            raise Unreadable(f"the body has more than {MOST_CODINGS} codings")
+        self._codings = [_coding(name) for name in names]
+        self._left = limits.size
+        self._end = None if limits.seconds is None else time.monotonic() + limits.seconds
 
-    def head(self) -> Optional[bytes]:
-        """Takes the text before the first empty line, and that line. Returns None if HEAD_LIMIT bytes have none."""
-        start = 0
-        while len(self._held) < HEAD_LIMIT and (piece := next(self._pieces, b"")):
-            self._held += piece
-            found = _END_OF_HEAD.search(self._held, start)
-            if found:
-                self._at = found.end()
-                return self._held[: found.start()]
-            start = max(0, len(self._held) - 3)
-        return None
+    def feed(self, data: bytes) -> Iterator[bytes]:
+        """Yields the next bytes of the body without the codings, in pieces of at most PIECE bytes."""
+        yield from self._undo(0, data)
 
-    def take(self, count: int) -> Pieces:
-        """Yields the next bytes: as many as `count`, or fewer at the end."""
-        while count:
-            if self._at == len(self._held):
-                self._held, self._at = next(self._pieces, b""), 0
-            piece = self._held[self._at : self._at + min(count, PIECE)]
-            if not piece:
-                return
-            self._at += len(piece)
-            count -= len(piece)
-            yield piece
+    def end(self) -> Iterator[bytes]:
+        """Yields what was held until the body has ended."""
+        for number, coding in enumerate(self._codings):
+            for piece in coding.end():
+                yield from self._undo(number + 1, piece)
 
-    def rest(self) -> Pieces:
-        if self._at < len(self._held):
-            yield self._held[self._at :]
-        self._held = b""
-        yield from self._pieces
+    @property
+    def stored_otherwise(self) -> tuple[str, ...]:
+        """The codings that the body doesn't have. They are known when a piece has come. An empty body has none."""
+        return tuple(coding.name for coding in self._codings if coding.is_there is False)
 
+    def has_last(self, count: int) -> bool:
+        """Returns whether the body is known to have the last codings, as many as `count`."""
+        return all(coding.is_there for coding in self._codings[len(self._codings) - count :])
 
-def codings(head: bytes) -> list[bytes]:
-    """Returns the codings that an HTTP head names, the last one that was applied first."""
-    return transfer_codings(head) + content_codings(head)
-
-
-def transfer_codings(head: bytes) -> list[bytes]:
-    """Returns the transfer codings that an HTTP head names, the last one that was applied first."""
-    return _values(head, b"transfer-encoding")
-
-
-def content_codings(head: bytes) -> list[bytes]:
-    """Returns the content codings that an HTTP head names, the last one that was applied first."""
-    return _values(head, b"content-encoding")
-
-
-def _values(head: bytes, name: bytes) -> list[bytes]:
-    lines = (line.lower().partition(b":") for line in head.split(b"\n"))
-    values = b",".join(value for found, _, value in lines if found.strip() == name)
-    return [coding for part in reversed(values.split(b",")) if (coding := part.strip())]
-
-
-def decoded(
-    head: bytes,
-    body: Pieces,
-    limits: Limits = UNLIMITED,
-    undone: Callable[[bytes], list[bytes]] = codings,
-) -> Pieces:
-    """Yields a body without the codings that its HTTP head names, of them those of `undone`. Raises Unreadable."""
-    named = undone(head)
-    if len(named) > MOST_CODINGS:
-        raise Unreadable(f"the body has more than {MOST_CODINGS} codings")
-    count = limits.start()
-    body = count(body)
-    for coding in named:
-        body = count(without(coding, body))
-    return body
-
-
-def without(coding: bytes, body: Pieces) -> Pieces:
-    """Yields a body without a coding. An empty body has none."""
-    first = next(body, b"")
-    if not first:
-        return
-    body = _chain(first, body)
-    if coding == b"identity":
-        yield from body
-    elif coding == b"chunked":
-        yield from joined_chunks(body)
-    elif coding in (b"gzip", b"x-gzip"):
-        yield from inflated(body, _GZIP_OR_ZLIB)
-    elif coding == b"deflate":  # which some servers send without the head of zlib
-        yield from inflated(body, _GZIP_OR_ZLIB if first[0] & 15 == 8 else _DEFLATE_ALONE)
-    else:
-        raise Unreadable(f"the coding {coding[:40].decode('latin-1')!r} isn't known")
-
-
-def _chain(first: bytes, rest: Pieces) -> Pieces:
-    yield first
-    yield from rest
-
-
-def joined_chunks(body: Pieces) -> Pieces:
-    buffer = Buffer(body)
-    while True:
-        head = buffer.match(_CHUNK_HEAD, _MOST_LINE)
-        if not head:
-            raise Unreadable("the body isn't in chunks, or is cut")
-        left = int(head[1], 16)
-        if not left:
-            return
-        for piece in buffer.take(left):
-            left -= len(piece)
-            yield piece
-        if left or not buffer.match(_CHUNK_END, 2):
-            raise Unreadable("a chunk is cut")
-
-
-def inflated(body: Pieces, window: int) -> Pieces:
-    """Yields what all members of a compressed text hold."""
-    packed = (piece[at : at + _PACKED] for piece in body for at in range(0, len(piece), _PACKED))
-    data = next(packed, b"")
-    while data:
-        member = zlib.decompressobj(window)
-        while not member.eof:
-            try:
-                piece = member.decompress(data, PIECE)
-            except zlib.error as fault:
-                raise Unreadable(f"the body can't be decompressed: {fault}") from fault
-            if piece:
+    def _undo(self, number: int, data: bytes) -> Iterator[bytes]:
+        """Yields bytes without the codings from a number on."""
+        for piece in (data[at : at + PIECE] for at in range(0, len(data), PIECE)):
+            self._count(len(piece))
+            if number == len(self._codings):
                 yield piece
-            data = member.unused_data if member.eof else member.unconsumed_tail
-            if not data and (member.eof or len(piece) < PIECE):
-                data = next(packed, b"")
-                if not data and not member.eof:
-                    raise Unreadable("the compressed body is cut")
+                continue
+            for undone in self._codings[number].feed(piece):
+                yield from self._undo(number + 1, undone)
+
+    def _count(self, size: int) -> None:
+        if self._left is not None:
+            self._left -= size
+            if self._left < 0:
+                raise Unreadable("the body is longer than is allowed, or unpacks to more")
+        if self._end is not None and time.monotonic() > self._end:
+            raise Unreadable("the body takes longer to unpack than is allowed")
+
+
+def decoded(decoder: Decoder, body: Iterable[bytes]) -> Iterator[bytes]:
+    """Yields the body that these pieces are, without its codings. They are read to their end."""
+    for piece in body:
+        yield from decoder.feed(piece)
+    yield from decoder.end()
+
+
+class _Coding:
+    """A coding, or a name such as `utf-8` that is none, which no body has."""
+
+    def __init__(self, name: str) -> None:
+        self.name = name
+        self.is_there: Optional[bool] = None  # whether the body has it, once that is known
+        self._first = b""  # bytes, until then
+
+    def feed(self, data: bytes, is_end: bool = False) -> Iterator[bytes]:
+        if self.is_there is None:
+            self._first += data
+            self.is_there = self._begins(self._first, is_end) if self._first else None
+            if self.is_there is None:
+                return
+            data, self._first = self._first, b""
+        if self.is_there:
+            yield from self._undo(data)
+        elif data:
+            yield data
+
+    def end(self) -> Iterator[bytes]:
+        yield from self.feed(b"", is_end=True)
+        if self.is_there and not self._is_over():
+            raise Unreadable("the body is cut")
+
+    def _begins(self, first: bytes, is_end: bool) -> Optional[bool]:
+        """Returns whether a body of these first bytes has the coding, or None to be asked again with more."""
+        return False
+
+    def _undo(self, data: bytes) -> Iterator[bytes]:
+        raise Unreadable(f"the coding {self.name!r} can't be undone")
+
+    def _is_over(self) -> bool:
+        return False
+
+
+class _Foreign(_Coding):
+    def _begins(self, first: bytes, is_end: bool) -> Optional[bool]:
+        return _starts(first, FOREIGN[self.name], is_end)
+
+
+class _Missing(_Coding):
+    """Brotli without its module. Whether a body has it can't be known."""
+
+    def _begins(self, first: bytes, is_end: bool) -> Optional[bool]:
+        raise Unreadable(f"the coding {self.name!r} needs the module brotli (Debian's package python3-brotli)")
+
+
+class _Chunks(_Coding):
+    """Chunks (RFC 9112, section 7.1). Lines may end with LF alone. What follows the size of the last one is left out."""
+
+    _pattern = _FIRST_CHUNK
+    _line = b""  # what has come of the lines before a chunk
+    _left: Optional[int] = None  # bytes of the chunk; of the last one 0
+
+    def _begins(self, first: bytes, is_end: bool) -> Optional[bool]:
+        """The first line is a size, and a line break follows as many bytes. A page may begin with a number too."""
+        found = _FIRST_CHUNK.match(first, 0, _MOST_LINE)
+        if not found:
+            may_begin = first[:1].isalnum() and first.find(b"\n", 0, _MOST_LINE) < 0 and len(first) < _MOST_LINE
+            return None if may_begin and not is_end else False
+        end = found.end() + int(found[1], 16)
+        if end > _MOST_LINE:
+            return True
+        if len(first) < end + 2 and not is_end:
+            return None
+        behind = first[end : end + 2]
+        if not behind:
+            return end > found.end()  # a chunk that is cut, or the page `0`
+        return behind.startswith(b"\n") or b"\r\n".startswith(behind)
+
+    def _undo(self, data: bytes) -> Iterator[bytes]:
+        data, self._line, at = self._line + data, b"", 0
+        while at < len(data) and self._left != 0:
+            if self._left is None:
+                found = self._pattern.match(data, at, at + _MOST_LINE)
+                if not found:
+                    self._line = self._begun(data[at : at + _MOST_LINE])
+                    return
+                self._left, at = int(found[1], 16), found.end()
+                continue
+            piece = data[at : at + self._left]
+            self._left, at = self._left - len(piece) or None, at + len(piece)
+            self._pattern = _NEXT_CHUNK
+            yield piece
+
+    def _begun(self, line: bytes) -> bytes:
+        """Returns what isn't yet the lines before a chunk."""
+        if line.count(b"\n") > (self._pattern is _NEXT_CHUNK) or len(line) == _MOST_LINE:
+            raise Unreadable("a chunk has a size that is none, or more bytes than its size")
+        return line
+
+    def _is_over(self) -> bool:
+        return self._left == 0
+
+
+class _BrotliText:
+    """A text of brotli (RFC 7932), unpacked as one of zlib is."""
+
+    unconsumed_tail = b""
+
+    def __init__(self, module: Any) -> None:
+        self._module = module
+        self._text = module.Decompressor()
+
+    @property
+    def eof(self) -> bool:
+        return bool(self._text.is_finished())
+
+    @property
+    def unused_data(self) -> bytes:
+        return self.unconsumed_tail if self.eof else b""
+
+    def decompress(self, data: bytes, max_length: int, /) -> bytes:
+        """Unpacks a few bytes. What they unpack to may be longer than `max_length`."""
+        self.unconsumed_tail = data[_PACKED_BY_BROTLI:]
+        try:
+            return bytes(self._text.process(data[:_PACKED_BY_BROTLI]))
+        except self._module.error as fault:
+            raise zlib.error(str(fault)) from fault
+
+
+_Text = Union["zlib._Decompress", _BrotliText]
+
+
+class _Packed(_Coding):
+    """A compressed text, of gzip one or more members. As by `gunzip`, what follows and doesn't begin so is left out."""
+
+    def __init__(self, name: str, start: Callable[[], _Text]) -> None:
+        super().__init__(name)
+        self._start = start
+        self._text = start()
+        self._is_left_out = False  # what follows
+
+    def _begins(self, first: bytes, is_end: bool) -> Optional[bool]:
+        return _unpacks(self._start(), first, is_end)
+
+    def _undo(self, data: bytes) -> Iterator[bytes]:
+        for packed in (data[at : at + _PACKED] for at in range(0, len(data), _PACKED)):
+            while packed and not self._is_left_out:
+                if self._text.eof:
+                    self._is_left_out = not self._follows(packed)
+                    self._text = self._text if self._is_left_out else self._start()
+                else:
+                    yield from _unpacked(self._text, packed)
+                    packed = self._text.unused_data
+
+    def _follows(self, packed: bytes) -> bool:
+        """Returns whether a further text begins."""
+        return False
+
+    def _is_over(self) -> bool:
+        return self._text.eof
+
+
+class _Gzip(_Packed):
+    def _begins(self, first: bytes, is_end: bool) -> Optional[bool]:
+        return _starts(first, _GZIP, is_end)
+
+    def _follows(self, packed: bytes) -> bool:
+        return packed.startswith(_GZIP[:1])
+
+
+class _Brotli(_Packed):
+    def _follows(self, packed: bytes) -> bool:
+        raise Unreadable("bytes follow the compressed body")  # as the module says if the end comes with them
+
+
+class _Deflate(_Packed):
+    """A text of zlib (RFC 1950), or one of deflate alone, which some servers send."""
+
+    def _begins(self, first: bytes, is_end: bool) -> Optional[bool]:
+        head = int.from_bytes(first[:2], "big")
+        is_of_zlib = len(first) > 1 and head & 0x8F20 == 0x800 and head % 31 == 0
+        self._text = zlib.decompressobj(zlib.MAX_WBITS if is_of_zlib else -zlib.MAX_WBITS)
+        if is_of_zlib:
+            return True
+        return _unpacks(zlib.decompressobj(-zlib.MAX_WBITS), first, is_end)
+
+
+def _starts(first: bytes, start: bytes, is_end: bool) -> Optional[bool]:
+    """Returns whether the first bytes of a body are certain ones, or None if more have to come."""
+    return None if first != start and start.startswith(first) and not is_end else first.startswith(start)
+
+
+def _unpacks(text: _Text, first: bytes, is_end: bool) -> Optional[bool]:
+    """Returns whether the first bytes of a body are a text, or None if more have to come.
+
+    A body of at most _TRIED bytes is one whole text, and a longer one is of a text that goes on.
+    """
+    if len(first) <= _TRIED and not is_end:
+        return None
+    size = 0
+    try:
+        for piece in _unpacked(text, first[:_TRIED]):
+            size += len(piece)
+            if size > PIECE:
+                return True  # so far no other bytes come
+    except Unreadable:
+        return False
+    return text.eof == (len(first) <= _TRIED) and not text.unused_data
+
+
+def _unpacked(text: _Text, data: bytes) -> Iterator[bytes]:
+    while not text.eof:
+        try:
+            piece = text.decompress(data, PIECE)
+        except zlib.error as fault:
+            raise Unreadable(f"the body can't be decompressed: {fault}") from fault
+        if piece:
+            yield piece
+        data = text.unconsumed_tail
+        if not data and len(piece) < PIECE:
+            return
+
+
+def _coding(name: str) -> _Coding:
+    if name == "chunked":
+        return _Chunks(name)
+    if name in ("gzip", "x-gzip"):
+        return _Gzip(name, lambda: zlib.decompressobj(16 + zlib.MAX_WBITS))
+    if name == "deflate":
+        return _Deflate(name, zlib.decompressobj)
+    if name != "br":
+        return _Foreign(name) if name in FOREIGN else _Coding(name)
+    try:
+        import brotli
+    except ImportError:
+        return _Missing(name)
+    return _Brotli(name, lambda: _BrotliText(brotli))

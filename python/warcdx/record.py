@@ -1,11 +1,14 @@
 """Records, and the body of a page without the codings of HTTP."""
+import contextlib
+import datetime
 import functools
 import re
-from collections.abc import Callable, Iterator
+from collections.abc import Iterator
 from dataclasses import dataclass
 from typing import IO, Optional, Union
 
-from .codings import UNLIMITED, Buffer, Limits, Unreadable, codings, decoded, transfer_codings
+from .codings import UNLIMITED, Limits, Unreadable
+from .http_messages import Fields, HttpHead, Message, WithFields, field_of, pieces_of, unfolded
 
 __all__ = ["Head", "HttpHead", "Record", "RecordStream", "Unreadable", "payload"]
 
@@ -13,27 +16,13 @@ CLOSING = b"\r\n\r\n"
 HTTP_TYPE = "application/http"
 HEAD_LIMIT = 1_048_576  # bytes of a record's head
 _PIECE = 1 << 16
-_BLANKS = (" ", "\t")
-_HTTP_LINE_BREAK = re.compile(r"\r?\n")
 _LENGTH = re.compile("[0-9]{1,19}")
 _END_OF_FIELD = re.compile(rb"\r\n(?![ \t])")
-
-
-Fields = tuple[tuple[str, str], ...]
-
-
-@dataclass(frozen=True)
-class _WithFields:
-    fields: Fields
-
-    def field(self, name: str) -> Optional[str]:
-        """Returns the value of the first field of a name, in any case, or None."""
-        wanted = name.lower()
-        return next((value for found, value in self.fields if found.lower() == wanted), None)
+_DATE = re.compile(r"([0-9-]{10}T[0-9:]{8})(?:\.([0-9]{1,9}))?Z")
 
 
 @dataclass(frozen=True)
-class Head(_WithFields):
+class Head(WithFields):
     """A record's head: its fields in order, with the bytes that aren't UTF-8 as surrogates."""
 
     @staticmethod
@@ -41,8 +30,8 @@ class Head(_WithFields):
         """Returns the fields of the text of a head, without the empty line at its end. Raises Unreadable."""
         if not text.startswith(b"WARC/"):
             raise Unreadable("the input isn't a record")
-        _, *lines = _unfolded(text.decode(errors="surrogateescape").split("\r\n"))
-        return tuple(map(_field_of, lines))
+        _, *lines = unfolded(text.decode(errors="surrogateescape").split("\r\n"))
+        return tuple(map(field_of, lines))
 
     @property
     def kind(self) -> str:
@@ -50,45 +39,25 @@ class Head(_WithFields):
         return (self.field("WARC-Type") or "").lower()
 
     @property
+    def type(self) -> str:
+        """The same as `kind`."""
+        return self.kind
+
+    @property
+    def date(self) -> Optional[datetime.datetime]:
+        """WARC-Date in UTC, to the microsecond, or None if that isn't a date to the second."""
+        found = _DATE.fullmatch(self.field("WARC-Date") or "")
+        if not found:
+            return None
+        try:
+            return datetime.datetime.fromisoformat(f"{found[1]}.{found[2] or '':0<6.6}+00:00")
+        except ValueError:  # such as 30 February
+            return None
+
+    @property
     def is_http(self) -> bool:
         """Whether the record's type of content is application/http."""
         return (self.field("Content-Type") or "").lower().startswith(HTTP_TYPE)
-
-
-@dataclass(frozen=True)
-class HttpHead(_WithFields):
-    """An HTTP head: its fields in order, and the line before them. Bytes that aren't UTF-8 are surrogates.
-
-    A line that isn't a field is one without a value.
-    """
-
-    line: str
-
-    @classmethod
-    def of(cls, text: bytes) -> "HttpHead":
-        """Returns the head of a text without the empty line at its end. No text is refused."""
-        line, *lines = _unfolded(_HTTP_LINE_BREAK.split(text.decode(errors="surrogateescape")))
-        return cls(tuple(map(_field_of, lines)), line)
-
-
-def _unfolded(lines: list[str]) -> list[str]:
-    """Returns the lines of a head, each with those that continue it, which begin with a blank.
-
-    One space stands for a line break and the blanks around it.
-    """
-    joined = [[lines[0]]]
-    for line in lines[1:]:
-        if line.startswith(_BLANKS):
-            joined[-1][-1] = joined[-1][-1].rstrip(" \t")
-            joined[-1].append(line.lstrip(" \t"))
-        else:
-            joined.append([line])
-    return [" ".join(parts) for parts in joined]
-
-
-def _field_of(line: str) -> tuple[str, str]:
-    name, _, value = line.partition(":")
-    return name, value.strip(" \t")
 
 
 @dataclass(frozen=True)
@@ -104,6 +73,26 @@ class Record(Head):
         if not found or not rest.endswith(CLOSING):
             raise Unreadable("the input isn't a record")
         return cls(cls.fields_of(head), rest[: -len(CLOSING)])
+
+    @functools.cached_property
+    def http(self) -> Optional[HttpHead]:
+        """The HTTP head of the block, or None if it has none."""
+        return self._message().head
+
+    def payload(self, limits: Limits = UNLIMITED) -> bytes:
+        """Returns the body without its codings, as `payload` of this module. One beyond the limits is Unreadable."""
+        return b"".join(_said_to_be_cut(self, self._message().payload(limits)))
+
+    @functools.cached_property
+    def stored_otherwise(self) -> tuple[str, ...]:
+        """The codings that the HTTP head names and the body doesn't have, as far as it can be read."""
+        message = self._message()
+        with contextlib.suppress(Unreadable):
+            next(message.payload(), None)
+        return message.stored_otherwise
+
+    def _message(self) -> Message:
+        return Message(pieces_of(self.block), self.is_http)
 
 
 class RecordStream:
@@ -146,28 +135,39 @@ class RecordStream:
             yield piece
         self._rest.read(len(CLOSING))  # so that the record was read to its end, where its member is judged
 
-    @functools.cached_property
+    @property
     def http_head(self) -> Optional[bytes]:
         """The HTTP head without the empty line at its end, or None if the block has none."""
-        return self._body.head() if self.head.is_http else None
+        return self._message.head_text
+
+    @property
+    def http(self) -> Optional[HttpHead]:
+        """The HTTP head, or None if the block has none."""
+        return self._message.head
 
     @functools.cached_property
-    def _body(self) -> Buffer:
-        return Buffer(self.block())
+    def _message(self) -> Message:
+        return Message(self.block(), self.head.is_http)
 
     def payload(self, limits: Limits = UNLIMITED) -> Iterator[bytes]:
         """Yields the body without its codings, as `payload` returns it. One beyond the limits is Unreadable."""
-        return self._to_end(_payload(self.head, self.http_head, self._body, limits))
+        return _said_to_be_cut(self.head, self._message.payload(limits))
 
     def stored_payload(self, limits: Limits = UNLIMITED) -> Iterator[bytes]:
         """Yields the body without its transfer codings only, such as chunks. Its content codings stay."""
-        return self._to_end(_payload(self.head, self.http_head, self._body, limits, transfer_codings))
+        return _said_to_be_cut(self.head, self._message.stored_payload(limits))
 
-    def _to_end(self, body: Iterator[bytes]) -> Iterator[bytes]:
-        """Yields a body, and reads what is behind it in the block, so that its member is judged."""
-        yield from body
-        for _ in self._body.rest():
-            pass
+    def has_content_codings(self, limits: Limits = UNLIMITED) -> bool:
+        """Returns whether the body has all content codings of its head, by its first bytes, which stay to be read.
+
+        If not, or if that can't be known, no field Content-Encoding may be sent with `stored_payload`.
+        """
+        return self._message.has_content_codings(limits)
+
+    @property
+    def stored_otherwise(self) -> tuple[str, ...]:
+        """The codings that the head names and the body doesn't have, once its first piece was read."""
+        return self._message.stored_otherwise
 
 
 def fields_named(head: bytes, names: "re.Pattern[bytes]") -> Iterator[tuple[str, str]]:
@@ -178,7 +178,7 @@ def fields_named(head: bytes, names: "re.Pattern[bytes]") -> Iterator[tuple[str,
     for found in names.finditer(head):
         end = _END_OF_FIELD.search(head, found.end())
         text = head[found.start() + len(b"\r\n") : end.start() if end else None]
-        yield _field_of(_unfolded(text.decode(errors="surrogateescape").split("\r\n"))[0])
+        yield field_of(unfolded(text.decode(errors="surrogateescape").split("\r\n"))[0])
 
 
 def _length_of(head: Head) -> int:
@@ -188,30 +188,23 @@ def _length_of(head: Head) -> int:
     return int(value)
 
 
-def _payload(
-    head: Head,
-    http_head: Optional[bytes],
-    body: Buffer,
-    limits: Limits,
-    undone: Callable[[bytes], list[bytes]] = codings,
-) -> Iterator[bytes]:
-    if not head.is_http:
-        return body.rest()
-    if http_head is None:
-        raise Unreadable("the block has no HTTP head")
-    return decoded(http_head, body.rest(), limits, undone)
+def _said_to_be_cut(head: Head, body: Iterator[bytes]) -> Iterator[bytes]:
+    """Yields a body. If it can't be read, and the record is truncated (ISO 28500:2017, 5.13), the reason says so."""
+    try:
+        yield from body
+    except Unreadable as fault:
+        reason = head.field("WARC-Truncated")
+        if reason is None:
+            raise
+        raise Unreadable(f"{fault}; the record is truncated: {reason[:40]!r}") from fault
 
 
 def payload(record: Union[Record, bytes]) -> bytes:
     """Returns the body of a captured page without its transfer and content codings.
 
     If the record's type of content is application/http, the body is what follows the HTTP head in the
-    block, and chunks, gzip and deflate are undone. Of any other record, the body is the block. Raises
-    Unreadable if a coding isn't known, or the body isn't a whole text of it.
+    block, and chunks, gzip, deflate and br are undone. Of any other record, the body is the block. A coding
+    that the head names, and with which the body doesn't begin, is passed over: it was undone before. Raises
+    Unreadable if the body begins with a coding and isn't a whole text of it, or the coding can't be undone.
     """
-    if isinstance(record, bytes):
-        record = Record.read(record)
-    if not record.is_http:
-        return record.block
-    body = Buffer(iter([record.block] if record.block else []))
-    return b"".join(_payload(record, body.head(), body, UNLIMITED))
+    return (Record.read(record) if isinstance(record, bytes) else record).payload()

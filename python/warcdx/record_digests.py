@@ -1,14 +1,14 @@
 """Compares the digests of a record, which is given in pieces, with its block and payload. Nothing but heads is held."""
+import contextlib
 import enum
 import re
-from typing import TYPE_CHECKING, NamedTuple, Optional, Union
+from collections.abc import Callable, Iterator
+from typing import NamedTuple, Optional, Union
 
-from .codings import HEAD_LIMIT, Unreadable
+from .codings import Decoder, Limits, Unreadable
 from .digests import Digest
-from .record import CLOSING, Head, HttpHead, fields_named
-
-if TYPE_CHECKING:
-    from hashlib import _Hash
+from .http_messages import HeadReader, HttpHead
+from .record import CLOSING, HEAD_LIMIT, Head, fields_named
 
 BLOCK_DIGEST = "WARC-Block-Digest"
 PAYLOAD_DIGEST = "WARC-Payload-Digest"
@@ -16,9 +16,7 @@ _READ = re.compile(
     rb"\r\n(?i:Content-Length|Content-Type|WARC-Type|WARC-Segment-Number|WARC-(?:Block|Payload)-Digest):"
 )
 _LENGTH = re.compile("[0-9]{1,19}")
-_END_OF_HTTP_HEAD = re.compile(rb"\r?\n\r?\n")
-_CHUNK_HEAD = re.compile(rb"([0-9A-Fa-f]{1,15})[ \t]*(?:;[^\r\n]*)?\r?\n")
-_MOST_LINE = 1 << 14  # bytes of the line before a chunk
+_MOST_UNPACKED = 1 << 30  # bytes of a body without transfer codings that compress it
 
 
 class Verdict(enum.Enum):
@@ -69,7 +67,7 @@ class RecordCheck:
         if block and self._computed is not None:
             self._computed.update(block)
         if block and self._payload is not None:
-            self._payload.add(block)
+            self._payload.add(bytes(block))
         piece = piece[len(block) :]
         end = piece[: self.size - self._taken if not self._left else 0]
         self._taken += len(end)
@@ -107,7 +105,7 @@ class RecordCheck:
         self._is_revisit = head.kind == "revisit"
         block, payload = self._digests = _wanted(head, BLOCK_DIGEST), _wanted(head, PAYLOAD_DIGEST)
         self._computed = block.start() if isinstance(block, Digest) else None
-        self._payload = _Payload(payload, head.is_http) if isinstance(payload, Digest) else None
+        self._payload = _Payload(payload, head.is_http, self._left) if isinstance(payload, Digest) else None
 
     def _compare(self, digest: Digest) -> Verdict:
         if self._computed is not None and digest.is_of(self._computed):
@@ -132,79 +130,41 @@ def _is_elsewhere(head: Head) -> bool:
 
 
 class _Payload:
-    """The payload of a block that is read in pieces: of HTTP the body as it is stored, and without its chunks."""
+    """The payload of a block that is read in pieces: of HTTP the body as it is stored, and without its transfer codings."""
 
-    def __init__(self, digest: Digest, is_http: bool) -> None:
+    def __init__(self, digest: Digest, is_http: bool, length: int) -> None:
         self._digest = digest
-        self._stored = digest.start()
-        self._chunks: Optional[_Chunks] = None
-        self._head: Optional[bytearray] = bytearray() if is_http else None  # of HTTP, until it ends
+        self._stored, self._undone = digest.start(), digest.start()
+        self._head = HeadReader() if is_http else None
+        self._limits = Limits(size=2 * length + _MOST_UNPACKED)
+        self._decoder: Optional[Decoder] = None
 
-    def add(self, piece: memoryview) -> None:
+    def add(self, piece: bytes) -> None:
         if self._head is not None:
-            piece = self._add_to_head(piece)
+            is_new, piece = not self._head.is_read, self._head.feed(piece)
+            if is_new and self._head.text is not None:
+                self._start_decoder(HttpHead.of(self._head.text).transfer_codings)
         self._stored.update(piece)
-        if self._chunks is not None:
-            self._chunks.add(piece)
+        self._undo(lambda decoder: decoder.feed(piece))
 
     def verdict(self) -> Verdict:
         if self._head is not None:
-            return Verdict.UNKNOWN
-        is_same = self._digest.is_of(self._stored)
-        if not is_same and self._chunks is not None and self._chunks.are_joined:
-            is_same = self._digest.is_of(self._chunks.joined)
-        return Verdict.SAME if is_same else Verdict.DIFFERS
+            self._stored.update(self._head.end())
+            if self._head.is_endless:
+                return Verdict.UNKNOWN
+        self._undo(lambda decoder: decoder.end())
+        if self._digest.is_of(self._stored) or self._decoder is not None and self._digest.is_of(self._undone):
+            return Verdict.SAME
+        return Verdict.UNKNOWN if self._head is not None and self._head.text is None else Verdict.DIFFERS
 
-    def _add_to_head(self, piece: memoryview) -> memoryview:
-        """Returns what is after the head."""
-        assert self._head is not None
-        held = len(self._head)
-        self._head += piece[: max(0, HEAD_LIMIT - held)]
-        found = _END_OF_HTTP_HEAD.search(self._head, max(0, held - 3))
-        if not found:
-            return piece[len(piece) :]
-        coding = HttpHead.of(bytes(self._head[: found.start()])).field("Transfer-Encoding") or ""
-        if coding.lower() == "chunked":
-            self._chunks = _Chunks(self._digest.start())
-        self._head = None
-        return piece[found.end() - held :]
+    def _start_decoder(self, names: list[str]) -> None:
+        with contextlib.suppress(Unreadable):
+            self._decoder = Decoder(names, self._limits) if names else None
 
-
-class _Chunks:
-    """A body in chunks that is read in pieces, and the digest of it without them."""
-
-    def __init__(self, joined: "_Hash") -> None:
-        self.joined = joined
-        self.are_joined = False  # whether the last chunk was read
-        self._is_bad = False
-        self._is_after_data = False  # whether a line break has to follow
-        self._left = 0  # bytes of the chunk
-        self._line = bytearray()
-
-    def add(self, piece: memoryview) -> None:
-        while piece and not self.are_joined and not self._is_bad:
-            if self._left:
-                data = piece[: self._left]
-                self.joined.update(data)
-                self._left -= len(data)
-                piece = piece[len(data) :]
-            else:
-                piece = self._add_to_line(piece)
-
-    def _add_to_line(self, piece: memoryview) -> memoryview:
-        """Returns what is after the line."""
-        held = len(self._line)
-        self._line += piece[: _MOST_LINE - held]
-        end = self._line.find(b"\n", held) + 1
-        if not end:
-            self._is_bad = len(self._line) == _MOST_LINE
-            return piece[len(piece) :]
-        line, self._line = bytes(self._line[:end]), bytearray()
-        if self._is_after_data:
-            self._is_bad, self._is_after_data = line not in (b"\n", b"\r\n"), False
-        elif found := _CHUNK_HEAD.fullmatch(line):
-            self._left = int(found[1], 16)
-            self._is_after_data, self.are_joined = bool(self._left), not self._left
-        else:
-            self._is_bad = True
-        return piece[end - held :]
+    def _undo(self, pieces: Callable[[Decoder], Iterator[bytes]]) -> None:
+        """Adds to the body without its transfer codings, until they can't be undone."""
+        try:
+            for piece in pieces(self._decoder) if self._decoder is not None else ():
+                self._undone.update(piece)
+        except Unreadable:
+            self._decoder = None

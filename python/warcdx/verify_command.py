@@ -10,7 +10,7 @@ For each record it prints the record's offset and the verdicts on both:
 
 same       the digest is that of the block or of the payload
 differs    it isn't
-unknown    the algorithm or the form of the value isn't known, or the HTTP head doesn't end
+unknown    the algorithm or the form of the value isn't known, or where the payload begins
 absent     the head has no such field
 elsewhere  the payload of a revisit or of a segment isn't in the record
 empty      a revisit has the digest of an empty block, as GNU Wget writes

@@ -1,18 +1,16 @@
 """Compares the digests of blocks and of payloads with an archive of either form."""
 import itertools
-import zlib
 from collections.abc import Generator, Iterator
 from typing import IO, NamedTuple
 
 from .archive import Archive, Listed
-from .codings import Unreadable, inflated
+from .codings import Decoder, Unreadable, decoded
 from .errors import fault
 from .faults import CannotOpen, CutMember, Read, ShortBlock, ShortHead
 from .record_digests import RecordCheck, Verdict, Verdicts
 from .usual_records import MAGIC
 
 _PIECE = 1 << 16  # bytes that are read at once
-_GZIP = 16 + zlib.MAX_WBITS
 
 
 class Checked(NamedTuple):
@@ -43,8 +41,7 @@ def _check_listed(path: str, file: IO[bytes], listed: Listed) -> Verdicts:
     try:
         first = next(stored)
         is_packed = first.startswith(MAGIC)
-        pieces = itertools.chain((first,), stored)
-        _check_pieces(check, inflated(pieces, _GZIP) if is_packed else pieces)
+        _check_pieces(check, decoded(Decoder(("gzip",)), itertools.chain((first,), stored)))
     except EOFError:
         cause = CutMember if is_packed else ShortHead if check.size is None else ShortBlock
         raise fault(cause.__name__, path, listed.offset) from None

@@ -132,24 +132,30 @@ body() { # FILE: the body of the record
     ' < "$1"
 }
 record_with() { # FIELD BODY: a record of a response with this field
-    local block
+    local block LC_ALL=C
     block=$(printf 'HTTP/1.1 200 OK\r\n%s\r\n\r\n%s' "$1" "$2")
     printf 'WARC/1.0\r\nWARC-Type: response\r\nWARC-Record-ID: <urn:x>\r\nWARC-Date: 2016\r\nContent-Type: application/http\r\nContent-Length: %d\r\n\r\n%s\r\n\r\n' "${#block}" "$block"
 }
 
-row "\`the body isn't in chunks, or is cut\`, \`the body can't be decompressed\`, \`the compressed body is cut\`, \`a chunk is cut\`"
-record_with "Transfer-Encoding: chunked" "abc" > chunks.warc
-shows "no chunks" "the body isn't in chunks, or is cut" body chunks.warc
-record_with "Content-Encoding: gzip" "abc" > packed.warc
-shows "no gzip" "the body can't be decompressed" body packed.warc
+row "\`the body is cut\`, \`the body can't be decompressed\`, \`bytes follow the compressed body\`, \`a chunk has a size that is none, or more bytes than its size\`"
+record_with "Transfer-Encoding: chunked" $'5\r\nabc' > cut.warc
+shows "a chunk that is cut" "the body is cut" body cut.warc
+record_with "Transfer-Encoding: chunked" $'1\r\na\r\n3\r\nabcd\r\n0\r\n\r\n' > chunks.warc
+shows "a chunk that is too long" "a chunk has a size that is none, or more bytes than its size" body chunks.warc
+record_with "Content-Encoding: gzip" $'\x1f\x8babc' > packed.warc
+shows "gzip that is damaged" "the body can't be decompressed" body packed.warc
+row "\`; the record is truncated:\` behind one of these"
+sed 's/^WARC-Date/WARC-Truncated: length\r\nWARC-Date/' cut.warc > truncated.warc
+shows "a truncated record" "; the record is truncated: 'length'" body truncated.warc
 
-row "\`the coding .. isn't known\`, \`the body has more than .. codings\`"
-record_with "Content-Encoding: br" "abc" > other.warc
-shows "another coding" "isn't known" body other.warc
+row "\`the coding .. needs the module brotli (Debian's package python3-brotli)\`"
+row "\`the coding .. can't be undone\`, \`the body has more than .. codings\`"
+record_with "Content-Encoding: zstd" $'\x28\xb5\x2f\xfd' > other.warc
+shows "another coding" "can't be undone" body other.warc
 
 row "\`the body is longer than is allowed, or unpacks to more\`, \`the body takes longer to unpack than is allowed\`"
 
-row "\`the input isn't a record\`, \`the record has no length\`, \`the head of the record is too long\`, \`the block has no HTTP head\`"
+row "\`the input isn't a record\`, \`the record has no length\`, \`the head of the record is too long\`, \`the HTTP head doesn't end\`"
 shows "another file" "the input isn't a record" body text
 
 # The tests of the gateway have its refusals, and what it says of indexes.

@@ -83,7 +83,7 @@ Maintainer: $(maintainer)
 Installed-Size: $(installed_size "$1")
 Depends: adduser, libc6 (>= $(c_library_version "$1"/usr/bin/warcdx{,-gz}))
 Recommends: python3 (>= 3.9)
-Suggests: gunicorn, nginx-light, python3-distributed, python3-prometheus-client, python3-regex, python3-tqdm, python3-werkzeug
+Suggests: gunicorn, nginx-light, python3-brotli, python3-distributed, python3-prometheus-client, python3-regex, python3-tqdm, python3-werkzeug
 Section: web
 Priority: optional
 Description: indexer of web archives, with queries over the indexes

@@ -7,8 +7,8 @@ from typing import Optional
 from werkzeug.wrappers import Request, Response
 
 from warcdx import Capture
-from warcdx.codings import content_codings
-from warcdx.record import HttpHead, RecordStream
+from warcdx.codings import FOREIGN
+from warcdx.record import RecordStream
 
 from ..collection import Collection
 from ..history import Ask
@@ -18,12 +18,10 @@ from .searching import NotShown
 
 MOST_FIELDS = 64  # of an archived head
 MOST_HEAD = 6000  # bytes of the fields that are passed on
-MOST_CODING = 200  # characters of Content-Encoding
 MOST_HELD = 1 << 20  # bytes of a payload that are read before its answer begins
-KNOWN_CODINGS = frozenset((b"identity", b"gzip", b"x-gzip", b"deflate"))  # that are undone
+SENT = range(200, 600)  # the statuses that are passed on
 ARCHIVED = "X-Archive-Orig-"
 _TOKEN = re.compile(r"[!#$%&'*+.^_`|~0-9A-Za-z-]{1,100}")
-_STATUS = re.compile(r"HTTP/\S+[ ]+([2-5][0-9]{2})(?![0-9])")
 
 
 class RawCapture:
@@ -55,20 +53,21 @@ class RawCapture:
 
     def _response(self, fields: dict[str, str], location_of: Callable[[str], str]) -> Response:
         record = self._stack.enter_context(reading.opened(self._collection, self._capture))
-        head, kind = head_of(record), record.head.field("Content-Type") or ""
+        head = record.http
+        kind = "" if record.head.is_http else record.head.field("Content-Type") or ""
         if record.head.kind == "revisit":
             original = original_of(self._ask, record.head)
             if original is None:
                 why = "No index has a capture with its digest."
                 raise NotShown("The original of the revisit isn't here.", why, 404)
             record = self._stack.enter_context(reading.opened(self._collection, original))
-            head = head or head_of(record)
-        what, coding = coded(self._request, content_codings(record.http_head or b""))
+            head = head or record.http
+        what, coding = coded(self._request, record)
         status, headers = 200, {**responses.payload_headers(), **fields, **coding}
         if head is not None:
             kind = head.field("Content-Type") or ""
-            found = _STATUS.match(head.line)
-            status = int(found[1]) if found else 200
+            status = head.status or 200
+            status = status if status in SENT else 200
             target = head.field("Location")
             if 300 <= status < 400 and target is not None and (where := location_of(target)):
                 headers["Location"] = where
@@ -81,26 +80,22 @@ class RawCapture:
         return response
 
 
-def head_of(record: RecordStream) -> Optional[HttpHead]:
-    return None if record.http_head is None else HttpHead.of(record.http_head)
-
-
-def coded(request: Request, named: list[bytes]) -> tuple[str, dict[str, str]]:
+def coded(request: Request, record: RecordStream) -> tuple[str, dict[str, str]]:
     """Returns which payload a client gets, by its content codings, and the fields that say so.
 
-    The codings stay if the client takes them, or if one isn't known.
+    The codings stay if the payload has all that its head names, and the client takes them, or one
+    can't be undone. Else they are undone, as far as the payload has them, and no field names them.
     """
-    if not named:
+    names = record.http.content_codings[::-1] if record.http else []
+    if not names:
         return "stored", {}
-    names = [visible(each.decode("latin-1")) for each in reversed(named)]
+    varied = {"Vary": "Accept-Encoding"}
     accepted = request.accept_encodings
-    is_accepted = all(accepted.quality(each.removeprefix("x-")) > 0 for each in names)
-    if KNOWN_CODINGS.issuperset(named) and not is_accepted:
-        return "payload", {"Vary": "Accept-Encoding"}
-    coding = ", ".join(names)
-    if len(coding) > MOST_CODING:
-        raise NotShown("The payload can't be sent.", "It has too many content codings.", 502)
-    return "stored", {"Vary": "Accept-Encoding", "Content-Encoding": coding}
+    stays = all(accepted.quality(each.removeprefix("x-")) > 0 for each in names)
+    stays = stays or not FOREIGN.keys().isdisjoint(names)
+    if stays and record.has_content_codings(reading.SHOWN):
+        return "stored", {**varied, "Content-Encoding": ", ".join(names)}
+    return "payload", varied
 
 
 def archived_fields(fields: tuple[tuple[str, str], ...]) -> Iterator[tuple[str, str]]:

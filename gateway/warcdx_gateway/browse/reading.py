@@ -8,7 +8,8 @@ from typing import Optional
 
 from warcdx import Capture, Error, Fault, ReplyTooLate, Unreadable, faults, open_archive
 from warcdx.codings import Limits
-from warcdx.record import Head, HttpHead, RecordStream
+from warcdx.http_messages import HttpHead
+from warcdx.record import Head, RecordStream
 from warcdx.record_digests import RecordCheck, Verdicts
 
 from ..collection import Collection
@@ -41,11 +42,15 @@ _CHARSETS = frozenset(
 
 @dataclass(frozen=True)
 class Payload:
-    """A payload without its codings, or its first MOST_SHOWN bytes. `fault` says why it is cut."""
+    """A payload without its codings, or its first MOST_SHOWN bytes. `fault` says why it is cut.
+
+    `stored_otherwise` are the codings that its head names, and that it didn't have.
+    """
 
     content: bytes
     is_whole: bool
     fault: str = ""
+    stored_otherwise: tuple[str, ...] = ()
 
 
 @dataclass(frozen=True)
@@ -149,8 +154,7 @@ def reason_of(error: Error) -> str:
 def read(collection: Collection, capture: Capture) -> Read:
     """Reads a record, and the first MOST_SHOWN bytes of its payload. Raises NotShown."""
     with opened(collection, capture) as record:
-        http = HttpHead.of(record.http_head) if record.http_head is not None else None
-        return Read(record.head, http, record.length, _payload(record))
+        return Read(record.head, record.http, record.length, _payload(record))
 
 
 def _payload(record: RecordStream) -> Payload:
@@ -163,7 +167,7 @@ def _payload(record: RecordStream) -> Payload:
     except Unreadable as error:
         fault = reason_of(error)
     is_whole = len(content) <= MOST_SHOWN and not fault
-    return Payload(bytes(content[:MOST_SHOWN]), is_whole, fault)
+    return Payload(bytes(content[:MOST_SHOWN]), is_whole, fault, record.stored_otherwise)
 
 
 def verdicts(collection: Collection, capture: Capture) -> Optional[Verdicts]:

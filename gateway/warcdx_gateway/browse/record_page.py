@@ -146,6 +146,9 @@ def _payload(record: Read, capture: Capture) -> Markup:
             if size
             else "The payload is empty."
         )
+    if payload.stored_otherwise:
+        codings = cut(", ".join(payload.stored_otherwise), MOST_VALUE)
+        words += f" The HTTP header names codings that the record is stored without: {codings}."
     kind = cut(record.kind, 80) or "no type"
     shown: list[Child] = []
     if size and record.shown_type:
