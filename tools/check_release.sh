@@ -136,7 +136,7 @@ check_programs() {
     check_program warcdx
     check_program warcdx-gz
     expect "version of the C library" GLIBC_2.34 "$(library_versions | tail --lines=1)" # as docs/INSTALL.md says
-    expect "Python package of the tar file" "1 gone" "$(installed warcdx get 11387 "$doc/samples/wget.warc" | "$doc/examples/body.py" | sed 's/^/1 /')"
+    expect "Python package of the tar file" "1 gone" "$(installed warcdx index "$doc/samples/wget.warc" > "$work/wget.cdxj"; installed warcdx-fetch --index "$work/wget.cdxj" --archives "$doc/samples" http://127.0.0.1:8000/odd/gone | sed 's/^/1 /')"
     gzip --stdout "$doc/samples/response.warc" > "$work/response.warc.gz"
     expect "a compressed archive" "0 $(stat --format=%s "$work/response.warc.gz") response" "$(installed warcdx-gz list "$work/response.warc.gz")"
     expect "files of each command" "" "$(absent_files)"

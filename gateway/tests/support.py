@@ -12,15 +12,13 @@ import shutil
 import signal
 import socket
 import subprocess
-import sys
 import tempfile
 import time
 import unittest
 from collections.abc import Iterator, Mapping
 from typing import Any, NamedTuple, Optional
 
-ROOT = pathlib.Path(__file__).resolve().parents[2]
-sys.path[:0] = [str(ROOT / "gateway"), str(ROOT / "python")]
+from . import ROOT as ROOT
 
 PROGRAM = os.path.abspath(shutil.which(os.environ.get("WARCDX", "warcdx")) or "warcdx")
 COMMAND = ROOT / "gateway/bin/warcdx-gateway"

@@ -1,9 +1,7 @@
 """Markup: nothing unescaped gets out, and what can't be seen is shown."""
-import re
 import unittest
 from html.parser import HTMLParser
 
-from . import browse_support as _  # noqa: F401, whose import finds the packages
 
 from warcdx_gateway.browse import responses
 from warcdx_gateway.browse.markup import (

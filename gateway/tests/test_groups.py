@@ -4,7 +4,6 @@ import random
 import unittest
 from unittest import mock
 
-from .support import ROOT as _  # noqa: F401, whose import finds the packages
 
 from warcdx import FIELDS
 from warcdx_gateway import rows

@@ -6,10 +6,10 @@ import unittest
 from typing import Optional
 from unittest import mock
 
-from werkzeug.test import Client, TestResponse
+from werkzeug.test import TestResponse
 
 from . import browse_support as support
-from .browse_support import Archives, digest_of, record, response, revisit
+from .browse_support import Archives, record, response, revisit
 
 from warcdx import Capture
 from warcdx_gateway import history as histories

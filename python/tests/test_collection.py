@@ -31,7 +31,7 @@ class Collections(Case):
 
     def test_the_record_of_each_capture(self) -> None:
         plain, packed = self.folder / "plain", self.folder / "packed"
-        text, members = SAMPLE.read_bytes(), b""
+        text = SAMPLE.read_bytes()
         records = [text[each.offset : each.offset + each.length] for each in Archive(SAMPLE, program=PROGRAM).list()]
         for folder, archive in ((plain, text), (packed, b"".join(map(gzip.compress, records)))):
             folder.mkdir()

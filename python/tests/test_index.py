@@ -8,7 +8,7 @@ import subprocess
 import unittest
 from unittest import mock
 
-from warcdx import Capture, Refused, faults, refusals
+from warcdx import Capture, Refused, ReplyTooLong, faults, refusals
 
 from .support import ALL, LINE, PROGRAM, SAMPLES, Case, lines
 
@@ -216,6 +216,12 @@ class Faults(Case):
         self.raises(faults.Read, index.count, ALL)
         path.write_text(lines(1000))
         self.assertEqual(1000, index.count(ALL))
+
+    def test_a_long_reply_ends_its_program(self) -> None:
+        index = self.open(self.put(lines(3000)), most=100_000)
+        self.raises(ReplyTooLong, index.text, ALL)
+        self.raises(ReplyTooLong, index.page, ALL)
+        self.assertEqual(b"7\n", index.text("url=example.com/0000007&fl=offset"))
 
     def test_too_many_indexes_are_refused(self) -> None:
         path = self.put(lines(1))

@@ -6,10 +6,9 @@ from types import TracebackType
 from typing import Any, Optional, Union
 
 from .asked import Asked
-from .errors import Refused, ReplyTooLong, refused
+from .errors import Refused, refused
 from .faults import cannot_open
 from .parameters import parameter_of
-from .pieces import Pieces
 from .program import Path, find_program, operand
 from .query import (
     FIELDS,
@@ -65,8 +64,7 @@ class Index:
 
     `seconds` is how long a reply may take, and `most` how many bytes it may have; None is no bound. The program
     of a reply beyond them is ended, and ReplyTooLate or ReplyTooLong is raised. An iterator reads a reply for
-    each page. `pieces` makes its pieces shorter so that they have no more than `most` bytes, except those that
-    can't be: one of a single capture, and one in which no capture but the last has a key that fits a query.
+    each page.
     """
 
     def __init__(
@@ -229,16 +227,6 @@ class Index:
         with self._turn(asked) as serve:
             return serve.text(line.encode(errors="surrogateescape"), is_json, self.seconds, self.most)
 
-    def pieces(self, query: str) -> Iterator[bytes]:
-        """Yields a page as `warcdx query` writes it, in pieces of some hundred kilobytes.
-
-        Other queries are answered between two pieces, however slowly they are taken.
-        """
-        pieces = Pieces(query)
-        while not pieces.is_last:
-            if piece := self.piece(pieces):
-                yield piece
-
     def stream(self, query: str) -> Iterator[bytes]:
         """Yields a page as `warcdx query` writes it, in pieces as the program writes them.
 
@@ -250,20 +238,6 @@ class Index:
         with self._turn(asked) as serve:
             encoded = line.encode(errors="surrogateescape")
             yield from serve.stream(encoded, asked.has("output", "json"), self.seconds)
-
-    def piece(self, pieces: Pieces) -> bytes:
-        """Returns the next piece of a page, which may be empty."""
-        while (asked := pieces.next_query()) is not None:
-            try:
-                return pieces.add(self._text_of(asked, pieces))
-            except ReplyTooLong:
-                pieces.shrink()
-        return b""
-
-    def _text_of(self, asked: str, pieces: Pieces) -> bytes:
-        most = self.most if pieces.is_bounded else None
-        with self._turn(Query.of(asked, {})) as serve:
-            return serve.text(asked.encode(errors="surrogateescape"), pieces.is_json, self.seconds, most)
 
     def close(self) -> None:
         """Ends the processes, after the queries that are being answered. A second call does nothing."""

@@ -14,7 +14,8 @@ from collections.abc import Iterator, Sequence
 from types import TracebackType
 from typing import Optional
 
-from .record import CLOSING, Fields, Record
+from .http_messages import Fields
+from .record import CLOSING, Record
 
 MAGIC = b"\x1f\x8b"  # what a compressed archive begins with, and each of its members
 MOST = 1 << 26  # bytes of a record that is read here

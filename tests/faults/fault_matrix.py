@@ -33,7 +33,7 @@ sys.path.insert(0, str(pathlib.Path(__file__).resolve().parents[1]))
 from device_runs import SECONDS, Differs, expect
 from matrix_commands import PAGE, Command, Outcome, Trial, commands_of, trial_of
 from program import Report, add_program, find_program, parser_of
-from script_runs import Disk, Ended
+from script_runs import Disk
 from script_signals import is_caught, wait_until
 
 PAGES = 16  # of the disk

@@ -8,11 +8,10 @@ import itertools
 import os
 import pathlib
 import subprocess
-import sys
 import time
 from collections.abc import Mapping, Sequence
 from types import TracebackType
-from typing import IO, Any, NamedTuple, Optional, Union
+from typing import Any, NamedTuple, Optional, Union
 
 from device_runs import LINE, SECONDS, expect
 from program import ROOT, find_packed_program

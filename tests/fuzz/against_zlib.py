@@ -18,7 +18,7 @@ from typing import Optional
 
 sys.path.insert(0, str(pathlib.Path(__file__).resolve().parents[1]))
 
-from archive_trials import expect_index, expect_order, expect_reports, expect_scan, faults_said, some_types
+from archive_trials import expect_index, expect_order, expect_reports, expect_scan, some_types
 from case_runs import run_cases
 from choices import some
 from plain import members

@@ -160,7 +160,7 @@ def expect_same(trial: Trial, here: Archive, asked: Archive, size: int) -> None:
     trial.tally["records"] += sum(isinstance(each, Record) for each in found)
     trial.tally[f"archive: {str(found[-1]).split()[0] if found and isinstance(found[-1], str) else 'whole'}"] += 1
     for offset, length in some_places(trial.choice, asked, size):
-        for read in (lambda archive: archive.record(offset, length=length), lambda archive: streamed(archive, offset, length)):
+        for read in (lambda each: each.record(offset, length=length), lambda each: streamed(each, offset, length)):
             found_here, found_there = found_by(lambda: read(here)), found_by(lambda: read(asked))
             trial.check(found_here == found_there, f"at {offset}, {length}: {found_here!s:.1500}\nand by the program {found_there!s:.1500}")
             trial.tally["places"] += 1

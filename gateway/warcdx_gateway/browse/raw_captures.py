@@ -2,7 +2,6 @@
 import contextlib
 import re
 from collections.abc import Callable, Iterator
-from typing import Optional
 
 from werkzeug.wrappers import Request, Response
 
