@@ -10,7 +10,7 @@ import os
 import re
 import stat
 import zlib
-from collections.abc import Iterator, Sequence
+from collections.abc import Iterator
 from types import TracebackType
 from typing import Optional
 
@@ -48,22 +48,28 @@ def usual_head(text: bytes, start: int = 0) -> Optional[_Head]:
         return None  # another byte of these than those of the line breaks
     parts = [line.partition(":") for line in lines]
     fields = tuple([(name, value.strip(" \t")) for name, colon, value in parts if colon])
-    names = _names_of(fields) if len(fields) == len(lines) else ()
-    if [names.count(name) for name in _MANDATORY] != [1, 1, 1, 1]:
+    places = _places_in("\n".join([name for name, _ in fields])) if len(fields) == len(lines) else None
+    if places is None:
         return None
-    date, length = _DATE.fullmatch(fields[names.index("warc-date")][1]), fields[names.index("content-length")][1]
+    date, length = _DATE.fullmatch(fields[places[0]][1]), fields[places[1]][1]
     if not date or not _is_day(date[1]) or not _LENGTH.fullmatch(length):
         return None
     return fields, end + len(CLOSING) - start, int(length)
 
 
-def _names_of(fields: Fields) -> Sequence[str]:
-    """Returns the names of fields in lower case, or none if there is one that isn't a name."""
-    names = "\n".join([name for name, _ in fields])
+@functools.lru_cache(maxsize=100)
+def _places_in(names: str) -> Optional[tuple[int, int]]:
+    """Returns which fields of a head are WARC-Date and Content-Length, from the names of all fields, one on each line.
+
+    Returns None if one isn't a name, or a mandatory field is absent or repeated. Most records of a crawl have the same
+    names.
+    """
     if names.encode(errors="surrogateescape").translate(None, _TOKEN + b"\n"):
-        return ()
+        return None
     found = names.lower().split("\n")
-    return () if "" in found else found
+    if "" in found or [found.count(name) for name in _MANDATORY] != [1, 1, 1, 1]:
+        return None
+    return found.index("warc-date"), found.index("content-length")
 
 
 @functools.lru_cache(maxsize=1000)
