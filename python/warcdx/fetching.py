@@ -8,38 +8,32 @@ from typing import Optional
 from urllib.parse import quote_plus
 
 from .collection import Collection
+from .errors import Refused
 from .query import Capture
 from .record import Head, RecordStream
+from .stamps import stamp_of
 
 REVISIT = "warc/revisit"
-_DAY = datetime.timedelta(days=1)
-_SECOND = datetime.timedelta(seconds=1)
-_DIGITS = re.compile("[0-9]{1,14}")
 _NOT_DIGITS = re.compile("[^0-9]")
 _SHA1 = re.compile("sha1:", re.IGNORECASE)
 
 
 def moment_of(text: str) -> datetime.datetime:
-    """Returns the time in UTC of 4 to 14 digits, or of a date of ISO 8601. What it leaves out is filled to the end of its period.
+    """Returns the time in UTC of a date as `Index.captures` takes it. What it leaves out is filled to the end of its period.
 
     So `2016` is the last second of that year, and what is nearest to it is the last capture of the year, if there is one. Raises
     ValueError if there is no such time.
     """
-    if not _DIGITS.fullmatch(text):
-        return _moment_of_iso(text)
-    if len(text) < 4 or len(text) % 2:
-        raise ValueError("not a date")
-    year, month = int(text[:4]), int(text[4:6] or 12)
-    day = int(text[6:8] or calendar.monthrange(year, month)[1])
-    hour, minute, second = int(text[8:10] or 23), int(text[10:12] or 59), int(text[12:14] or 59)
+    try:
+        stamp = stamp_of("at", text)
+    except Refused as refused:
+        raise ValueError(text) from refused
+    if len(stamp) < 4 or len(stamp) % 2:
+        raise ValueError(text)
+    year, month = int(stamp[:4]), int(stamp[4:6] or 12)
+    day = int(stamp[6:8] or calendar.monthrange(year, month)[1])
+    hour, minute, second = int(stamp[8:10] or 23), int(stamp[10:12] or 59), int(stamp[12:14] or 59)
     return datetime.datetime(year, month, day, hour, minute, second, tzinfo=datetime.timezone.utc)
-
-
-def _moment_of_iso(text: str) -> datetime.datetime:
-    moment = datetime.datetime.fromisoformat(re.sub("[Zz]$", "+00:00", text))
-    if len(text) == len("2016-09-19"):
-        moment += _DAY - _SECOND
-    return moment.replace(tzinfo=moment.tzinfo or datetime.timezone.utc).astimezone(datetime.timezone.utc)
 
 
 def nearest(captures: Iterable[Capture], moment: Optional[datetime.datetime] = None) -> Optional[Capture]:
