@@ -191,7 +191,7 @@ class _Chunks(_Coding):
 
     def _begun(self, line: bytes) -> bytes:
         """Returns what isn't yet the lines before a chunk."""
-        if line.count(b"\n") > (self._pattern is _NEXT_CHUNK) or len(line) == _MOST_LINE:
+        if line.count(b"\n") > 1 or len(line) == _MOST_LINE:
             raise Unreadable("a chunk has a size that is none, or more bytes than its size")
         return line
 
