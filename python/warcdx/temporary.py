@@ -17,10 +17,11 @@ def memory_file() -> IO[bytes]:
 @contextlib.contextmanager
 def temporary_folder() -> Iterator[pathlib.Path]:
     """Makes a folder for files, and removes it and them."""
-    with blocked():
-        folder = tempfile.TemporaryDirectory(prefix="warcdx-")
-    try:
-        yield pathlib.Path(folder.name)
-    finally:
-        with blocked():
-            folder.cleanup()
+    with contextlib.ExitStack() as stack:
+        try:
+            with blocked():
+                folder = stack.enter_context(tempfile.TemporaryDirectory(prefix="warcdx-"))
+            yield pathlib.Path(folder)
+        finally:
+            with blocked():
+                stack.close()

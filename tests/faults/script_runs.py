@@ -67,7 +67,7 @@ def scripts_of(program: pathlib.Path) -> tuple[Script, ...]:
         Script("warcdx-verify", verify, (*of_warcdx, "digests.warc.gz"), "digests.warc.gz"),
         Script("warcdx-verify of a plain archive", verify, (*of_warcdx, "digests.warc"), "digests.warc"),
         Script("warcdx-verify of two at a time", verify, (*of_warcdx, "--jobs", "2", "digests.warc.gz", "digests.warc")),
-        Script("warcdx-fetch", fetch, (*of_warcdx, "--index", "page.cdxj", "http://example.com/"), "page.cdxj"),
+        Script("warcdx-fetch", fetch, (*of_warcdx, "--index", "page.cdxj", "http://example.com/")),
         Script("warcdx-fetch of a record", fetch, (*of_warcdx, "--index", "page.cdxj", "--record", "http://example.com/")),
         Script("warcdx-cdx to", cdx, (*of_warcdx, "to", "a.cdxj"), "a.cdxj"),
         Script("warcdx-cdx to of standard input", cdx, (*of_warcdx, "to"), reads="a.cdxj"),

@@ -187,7 +187,7 @@ def killed_program(run: Run) -> Iterator[str]:
 Case = Callable[[Run], Iterator[str]]
 OF_OUTPUTS: tuple[Case, ...] = (closed_outputs, failing_outputs, at_moments)
 OTHERS: tuple[Case, ...] = (surroundings, limits_of_memory)
-OF_ARCHIVES: tuple[Case, ...] = (hostile_names, unreadable_files, killed_program, cut_while_read)
+OF_ARCHIVES: tuple[Case, ...] = (hostile_names, unreadable_files, cut_while_read)
 
 
 def try_script(program: pathlib.Path, script: Script, cache: pathlib.Path, disk: Disk) -> list[tuple[str, str]]:
@@ -205,6 +205,7 @@ def try_script(program: pathlib.Path, script: Script, cache: pathlib.Path, disk:
             if not unbuffered:
                 cases += [help_and_usage(run), *(case(run) for case in OTHERS if script.has_output)]
                 cases += [case(run) for case in OF_ARCHIVES if script.file]
+                cases += [killed_program(run)] if script.has_output and str(program) in script.words else []
                 cases += [before_it_serves(run)] if script.words and not script.has_output else []
             for case in cases:
                 try:
