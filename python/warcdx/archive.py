@@ -11,9 +11,8 @@ from typing import IO, NamedTuple, Optional, TypeVar
 
 from .errors import Fault, ProgramError, fault
 from .faults import NoRecord, Read, cannot_open
-from .program import Path, find_packed_program, find_program, operand, running, started, write_output
+from .program import Path, find_packed_program, find_program, memory_file, operand, running, started, write_output
 from .record import CLOSING, Record, RecordStream, Unreadable
-from .temporary import memory_file
 from .usual_records import MAGIC, MOST, ArchiveFile, usual_record
 
 FAULTY = 1  # the exit status after a fault that is on the output, and after a digest that differs

@@ -17,7 +17,6 @@ from typing import IO, Any, Optional, Union
 from .ending import blocked
 from .errors import NO_STATUS, Error, Fault, ProgramError, ProgramMissing, ProgramTooOld, ReplyTooLate, error_of
 from .streams import whole
-from .temporary import memory_file
 
 Path = Union[str, os.PathLike[str]]
 
@@ -181,6 +180,11 @@ def _end(process: Process) -> None:
         for pipe in (process.stdin, process.stdout):
             if pipe is not None:
                 close(pipe)
+
+
+def memory_file() -> IO[bytes]:
+    """Makes a file in memory, for what a program says (Linux). A disk that is full would not take why it failed."""
+    return open(os.memfd_create("warcdx"), "w+b")
 
 
 def close(pipe: IO[bytes]) -> None:

@@ -9,9 +9,8 @@ from collections.abc import Callable, Generator, Iterator
 from typing import IO, Optional
 
 from .errors import NO_STATUS, Error, ProgramEnded, ProgramError, ReplyTooLate, ReplyTooLong
-from .program import Process, end_of, start
+from .program import Process, end_of, memory_file, start
 from .reply import END, MARK, NOTHING, PIECE, is_whole, refusal_of, rows_of, text_of
-from .temporary import memory_file
 
 PATIENCE = 10  # seconds for the program to end
 TAIL = 256  # bytes that hold the end of a reply, and the line of a fault before it

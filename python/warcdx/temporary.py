@@ -1,17 +1,10 @@
-"""Files in memory, and a folder for files that is gone when a block ends, also if a signal ends the command."""
+"""A folder for files that is gone when a block ends, also if a signal ends the command."""
 import contextlib
-import os
 import pathlib
 import tempfile
 from collections.abc import Iterator
-from typing import IO
 
 from .ending import blocked
-
-
-def memory_file() -> IO[bytes]:
-    """Makes a file in memory, for what a program says (Linux). A disk that is full would not take why it failed."""
-    return open(os.memfd_create("warcdx"), "w+b")
 
 
 @contextlib.contextmanager

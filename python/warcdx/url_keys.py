@@ -7,8 +7,7 @@ from collections.abc import Iterable, Iterator, Sequence
 from typing import IO, NamedTuple, Optional
 
 from .codings import Unreadable
-from .program import close, fault_of, started
-from .temporary import memory_file
+from .program import close, fault_of, memory_file, started
 
 MOST_URL = 1 << 20  # bytes: the program refuses the head of a record that is longer
 _HEAD = (
