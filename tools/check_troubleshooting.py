@@ -21,7 +21,7 @@ sys.path.insert(0, str(Path(__file__).resolve().parents[1] / "tests"))
 from program import ROOT, Report, parser_of
 
 PACKAGE, GATEWAY = ROOT / "python/warcdx", ROOT / "gateway/warcdx_gateway"
-REPORTING = ("report", "CannotUpdate", "CannotRead", "BadRow", "Unreadable", "ProgramMissing", "ProgramTooOld")
+REPORTING = ("report", "CannotResume", "CannotUpdate", "CannotRead", "BadRow", "Unreadable", "ProgramMissing", "ProgramTooOld")
 LEAST_LETTERS = 10  # of the part of a message that is searched
 # Lines about progress, and what happens only if the program isn't the one that the package was made for.
 NOT_SEARCHED = re.compile(r"archives, | index stays as it was|the program has (?:written|given) no ")
@@ -30,7 +30,8 @@ NOT_SEARCHED = re.compile(r"archives, | index stays as it was|the program has (?
 def causes(module: str) -> Iterator[str]:
     """Yields the names of the classes of a module of the package."""
     tree = ast.parse((PACKAGE / f"{module}.py").read_text())
-    return (node.name for node in tree.body if isinstance(node, ast.ClassDef))
+    names = (node.name for node in tree.body if isinstance(node, ast.ClassDef))
+    return (name for name in names if not name.startswith("_"))
 
 
 def calls(path: Path) -> Iterator[tuple[str, ast.Call]]:
