@@ -9,10 +9,11 @@ from collections.abc import Iterator
 from types import TracebackType
 from typing import IO, NamedTuple, Optional, TypeVar
 
-from .errors import Fault, ProgramError, fault
+from .errors import Fault, ProgramError
 from .faults import NoRecord, Read, cannot_open
 from .program import Path, find_packed_program, find_program, memory_file, operand, running, started, write_output
 from .record import CLOSING, Record, RecordStream, Unreadable
+from .reported import fault
 from .usual_records import MAGIC, MOST, ArchiveFile, usual_record
 
 FAULTY = 1  # the exit status after a fault that is on the output, and after a digest that differs

@@ -6,10 +6,10 @@ from typing import IO, NamedTuple
 
 from .archive import Archive, Listed
 from .codings import Decoder, Unreadable, decoded
-from .errors import fault
 from .faults import CannotOpen, CutMember, Read, ShortBlock, ShortHead
 from .record import Head
 from .record_digests import BlockCheck, RecordCheck, Verdict, Verdicts
+from .reported import fault
 from .usual_records import MAGIC, NotUsual
 
 _PIECE = 1 << 16  # bytes that are read at once

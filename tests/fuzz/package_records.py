@@ -137,10 +137,10 @@ def verdicts(records: Iterator[Checked]) -> list[Union[Checked, str]]:
 def expect_places(trial: Trial, records: list[Found], archive: Archive) -> None:
     """The records know the places that the program lists."""
     listed_records = archive.list()
-    for record in records:
-        if isinstance(record, Record):
+    for each in records:
+        if isinstance(each, Record):
             listed = next(listed_records)
-            trial.check(record.offset == listed.offset and record.length in (None, listed.length), f"{record.offset}, {record.length}: {listed}")
+            trial.check(each.offset == listed.offset and each.length in (None, listed.length), f"{each.offset}, {each.length}: {listed}")
 
 
 def streamed(archive: Archive, offset: int, length: Optional[int]) -> bytes:
