@@ -148,6 +148,12 @@ class Resume(Runs):
         self.assertEqual(0, self.run_command("--resume", "notes", "b.warc")[2])
         self.assertEqual(["a.warc", "b.warc"], self.noted())
 
+    def test_archives_that_are_given_twice(self) -> None:
+        self.put_bytes("a.warc", GOOD)
+        for jobs in ("1", "3"):
+            self.assertEqual(([], [], 0), self.run_command("--quiet", "--resume", f"notes{jobs}", "--jobs", jobs, *["a.warc", "./a.warc"] * 3))
+            self.assertEqual(["a.warc"], self.noted(f"notes{jobs}"))
+
     def test_a_run_that_is_broken_off_has_noted_what_it_has_read(self) -> None:
         os.mkfifo(self.folder / "pipe")  # which nobody writes
         self.put_bytes("a.warc", GOOD)
@@ -218,12 +224,12 @@ class Resume(Runs):
             lambda: (path.write_bytes(GOOD[:-1]), os.utime(path, ns=(1, 1)), path.write_bytes(GOOD), os.utime(path, ns=(1, 1))),
         ):  # fmt: skip
             time.sleep(0.01)  # so that the times differ
-            notes.begin(str(path))
+            notes.begin(0, str(path))
             change()
-            notes.end(str(path), True)
+            notes.end(0, str(path), True)
             self.assertFalse(notes.has(str(path)))
-        notes.begin(str(path))
-        notes.end(str(path), True)
+        notes.begin(0, str(path))
+        notes.end(0, str(path), True)
         self.assertTrue(notes.has(str(path)))
 
     def test_what_others_write_meanwhile_stays(self) -> None:
@@ -231,12 +237,12 @@ class Resume(Runs):
         names = [str(self.folder / self.put_bytes(name, GOOD)) for name in ("a.warc", "b.warc")]
         runs = [Notes(path), Notes(path)]
         for notes, name in zip(runs, names):
-            notes.begin(name)
-            notes.end(name, True)
+            notes.begin(0, name)
+            notes.end(0, name, True)
             notes.save()
         self.assertEqual(["a.warc", "b.warc"], sorted(self.noted()))
-        runs[1].begin(names[0])
-        runs[1].end(names[0], False)
+        runs[1].begin(0, names[0])
+        runs[1].end(0, names[0], False)
         runs[1].save()
         self.assertEqual(["b.warc"], self.noted())
         self.put_bytes("notes", b"mine")

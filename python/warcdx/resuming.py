@@ -47,7 +47,7 @@ class Notes:
         self._path = os.path.realpath(path)
         self._name = printable(path)
         self._noted = self._read()
-        self._begun: dict[str, Optional[_State]] = {}
+        self._begun: dict[int, Optional[_State]] = {}  # by the numbers of archives, of which two may be the same
         self._faulty: set[str] = set()
         self.save()
 
@@ -56,13 +56,13 @@ class Notes:
         state = _state_of(file)
         return state is not None and self._noted.get(os.path.abspath(file)) == state.note
 
-    def begin(self, file: str) -> None:
+    def begin(self, number: int, file: str) -> None:
         """An archive will be read."""
-        self._begun[file] = _state_of(file)
+        self._begun[number] = _state_of(file)
 
-    def end(self, file: str, is_good: bool) -> None:
+    def end(self, number: int, file: str, is_good: bool) -> None:
         """An archive was read. Nothing is noted of one that was changed meanwhile."""
-        before, path = self._begun.pop(file), os.path.abspath(file)
+        before, path = self._begun.pop(number), os.path.abspath(file)
         if is_good and before is not None and before == _state_of(file):
             self._noted[path] = before.note
             self._faulty.discard(path)

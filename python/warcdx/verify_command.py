@@ -191,7 +191,7 @@ class Run:
 
     def begin(self, number: int) -> None:
         if self._notes is not None:
-            self._notes.begin(self._files[number])
+            self._notes.begin(number, self._files[number])
 
     def clear(self) -> None:
         self._progress.clear()
@@ -199,7 +199,7 @@ class Run:
     def end(self, number: int, status: int) -> None:
         self._statuses[status] += 1
         if self._notes is not None:
-            self._notes.end(self._files[number], not status)
+            self._notes.end(number, self._files[number], not status)
             if self._notes.is_due:
                 self._save()
         self._progress.advance(self._sizes[number])
