@@ -1,5 +1,6 @@
 """Runs of warcdx-verify over many archives: --quiet, --resume, and what a terminal shows."""
 import gzip
+import importlib.util
 import json
 import os
 import pty
@@ -15,7 +16,7 @@ from unittest import mock
 from warcdx import resuming
 from warcdx.resuming import CannotResume, Notes
 
-from .support import PROGRAM, WAIT, Case
+from .support import PROGRAM, WAIT, Case, children_of
 from .test_verify import COMMAND, OF_ABC, record
 
 GOOD, BAD = record(b"abc", OF_ABC[5]), record(b"abd", OF_ABC[5])
@@ -95,7 +96,8 @@ class Quiet(Runs):
     def on_terminal(self, *arguments: str) -> tuple[str, int]:
         """Returns what a terminal shows, and the exit status."""
         terminal, end = pty.openpty()
-        process = subprocess.Popen(self.command(*arguments), cwd=self.folder, stdout=end, stderr=end)
+        environment = {**os.environ, "PYTHONPATH": str(self.folder)}  # where a test may put another tqdm
+        process = subprocess.Popen(self.command(*arguments), cwd=self.folder, stdout=end, stderr=end, env=environment)
         os.close(end)
         shown = b""
         try:
@@ -105,6 +107,7 @@ class Quiet(Runs):
             os.close(terminal)
         return shown.decode(), process.wait(timeout=WAIT)
 
+    @unittest.skipIf(importlib.util.find_spec("tqdm") is None, "the module tqdm is missing")
     def test_a_terminal_shows_how_far_it_is(self) -> None:
         names = [self.put_bytes(f"{number}.warc", GOOD) for number in range(2)]
         names.append(self.put_bytes("bad.warc", BAD))
@@ -114,6 +117,16 @@ class Quiet(Runs):
             self.assertIn("\rbad.warc: 0 differs absent\r\n", shown)  # the bar isn't before it
             self.assertTrue(shown.endswith("\rwarcdx-verify: 3 archives: 1 at fault\r\n"), shown)
             self.assertIn("3 archives:   0%", shown)
+
+    def test_a_terminal_shows_lines_without_tqdm(self) -> None:
+        self.put("raise ImportError", "tqdm.py")
+        names = [self.put_bytes("0.warc", GOOD), self.put_bytes("1.warc", GOOD)]
+        found = "warcdx-verify: 1 of 2 archives, 50 %\r\nwarcdx-verify: 2 of 2 archives, 100 %\r\n"
+        self.assertEqual((found, 0), self.on_terminal("--quiet", "--resume", "notes", *names))
+        self.assertEqual(("", 0), self.on_terminal("--quiet", "--resume", "notes", *names))
+
+    def test_a_terminal_that_shows_each_record_has_no_bar(self) -> None:
+        names = [self.put_bytes("0.warc", GOOD), self.put_bytes("1.warc", GOOD), self.put_bytes("bad.warc", BAD)]
         shown, status = self.on_terminal(*names)
         self.assertEqual("0.warc:\r\n0 same absent\r\n1.warc:\r\n0 same absent\r\nbad.warc:\r\n0 differs absent\r\n", shown)
 
@@ -147,6 +160,23 @@ class Resume(Runs):
         os.remove(self.folder / "a.warc")
         self.assertEqual(0, self.run_command("--resume", "notes", "b.warc")[2])
         self.assertEqual(["a.warc", "b.warc"], self.noted())
+
+    def test_a_worker_that_is_killed_is_said_and_the_others_are_noted(self) -> None:
+        os.mkfifo(self.folder / "pipe")  # which nobody writes
+        self.put_bytes("a.warc", GOOD)
+        command = self.command("--quiet", "--resume", "notes", "--jobs", "2", "a.warc", "pipe")
+        with subprocess.Popen(command, cwd=self.folder, stdout=subprocess.PIPE, stderr=subprocess.PIPE) as process:
+            end = time.monotonic() + WAIT
+            while len(children := children_of(process.pid)) != 1 or not (self.folder / "notes").exists():
+                self.assertLess(time.monotonic(), end)
+            time.sleep(1)
+            for child in children_of(process.pid):
+                os.kill(child, signal.SIGKILL)
+            found, said = process.communicate(timeout=WAIT)
+        self.assertEqual((b"", 3), (found, process.returncode), children)
+        lines = said.decode().splitlines()
+        self.assertEqual(["warcdx-verify: a process has ended with signal 9", "warcdx-verify: 2 archives: 1 not read"], lines)
+        self.assertEqual(["a.warc"], self.noted())
 
     def test_archives_that_are_given_twice(self) -> None:
         self.put_bytes("a.warc", GOOD)
