@@ -127,7 +127,8 @@ class Quiet(Runs):
 
     def test_a_terminal_that_shows_each_record_has_no_bar(self) -> None:
         names = [self.put_bytes("0.warc", GOOD), self.put_bytes("1.warc", GOOD), self.put_bytes("bad.warc", BAD)]
-        shown, status = self.on_terminal(*names)
+        self.assertEqual(("bad.warc: 0 differs absent\r\nwarcdx-verify: 1 archive: 1 at fault\r\n", 1), self.on_terminal("--quiet", names[2]))
+        shown, status = self.on_terminal("--jobs", "2", *names)
         self.assertEqual("0.warc:\r\n0 same absent\r\n1.warc:\r\n0 same absent\r\nbad.warc:\r\n0 differs absent\r\n", shown)
 
 
@@ -238,6 +239,8 @@ class Resume(Runs):
     def test_a_disk_that_gets_full_loses_notes_and_no_verdict(self) -> None:
         names = [self.put_bytes(f"{number}.warc", GOOD) for number in range(5)] + [self.put_bytes("bad.warc", BAD)]
         limit = {"preexec_fn": lambda: resource.setrlimit(resource.RLIMIT_FSIZE, (100, 100))}
+        found = self.run_command("--quiet", "--resume", "notes", *names[:-1], **limit)
+        self.assertEqual(([], ["warcdx-verify: notes: File too large"], 3), found)
         for jobs in ("1", "2"):
             found = self.run_command("--quiet", "--resume", "notes", "--jobs", jobs, *names, **limit)
             said = ["warcdx-verify: notes: File too large", "warcdx-verify: 6 archives: 1 at fault"]

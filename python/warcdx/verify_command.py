@@ -164,7 +164,7 @@ class Run:
         self._files = [each for each in given.files if self._notes is None or not self._notes.has(each)]
         self._sizes = [_size_of(each) for each in self._files]
         self._statuses = Counter[int]()
-        self._progress = progress_of(given)
+        self._progress = progress_of(given, len(self._files))
         self._lost = ""  # why the notes aren't in their file
 
     def check_all(self, output: BinaryIO) -> int:
@@ -223,16 +223,20 @@ class Run:
         """Returns what is to be said of all archives, or an empty text."""
         archives, known = len(self._given.files), len(self._given.files) - len(self._files)
         others = len(self._files) - self._statuses[0] - self._statuses[FAULTY]
-        if not (self._given.quiet and status or known and not self._given.quiet):
+        if not (status if self._given.quiet else known):
             return ""
         counts = {"at fault": self._statuses[FAULTY], "not read": others, "known to be good": known}
-        found = [f"{count:,} {name}" for name, count in counts.items() if count]
-        return f"{archives:,} archive{'s' * (archives != 1)}: {', '.join(found)}"
+        found = ", ".join(f"{count:,} {name}" for name, count in counts.items() if count)
+        return f"{archives:,} archive{'s' * (archives != 1)}: {found}" if found else ""
 
 
-def progress_of(given: argparse.Namespace) -> Silent:
-    """Returns what shows how far a run is: nothing, unless a terminal shows standard error and no line for each record."""
-    if not os.isatty(2) or os.isatty(1) and not given.quiet:
+def progress_of(given: argparse.Namespace, archives: int) -> Silent:
+    """Returns what shows on a terminal how far a run is, if it reads several archives.
+
+    That is nothing if the lines of records show it, or are written as the records are read, as for `head`.
+    """
+    is_shown = given.quiet or given.jobs > 1 and not os.isatty(1)
+    if archives < 2 or not is_shown or not os.isatty(2):
         return Silent()
     return bar_on_terminal() or Lines(NAME)
 
