@@ -28,10 +28,9 @@ NOT_SEARCHED = re.compile(r"archives, | index stays as it was|the program has (?
 
 
 def causes(module: str) -> Iterator[str]:
-    """Yields the names of the classes of a module of the package."""
+    """Yields the names of the public classes of a module of the package."""
     tree = ast.parse((PACKAGE / f"{module}.py").read_text())
-    names = (node.name for node in tree.body if isinstance(node, ast.ClassDef))
-    return (name for name in names if not name.startswith("_"))
+    return (node.name for node in tree.body if isinstance(node, ast.ClassDef) and not node.name.startswith("_"))
 
 
 def calls(path: Path) -> Iterator[tuple[str, ast.Call]]:

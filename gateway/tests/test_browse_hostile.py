@@ -363,7 +363,7 @@ class Records(support.Pages):
             self.assertEqual(self.all[name], saved.data)
 
     def test_a_download_that_fails_later_is_not_whole(self) -> None:
-        with mock.patch.object(reading, "DOWNLOADED", reading.Limits(size=MEGABYTE)):
+        with mock.patch.object(reading, "DOWNLOADED", reading.Limits(size=2 * MEGABYTE)):
             answer = self.ask("download", what="payload", **self.named("bomb"))
             self.assertEqual(200, answer.status_code)
             with self.assertRaises(BrokenPipeError):
@@ -383,7 +383,7 @@ class Records(support.Pages):
 
     def test_a_download_has_a_slot_until_it_is_closed(self) -> None:
         query = self.named("bomb")
-        with mock.patch("warcdx_gateway.shared.WAIT", 0.05):
+        with mock.patch.multiple("warcdx_gateway.shared", WAIT=0.05, FREE=0):
             downloads = [self.ask("download", what="payload", **query) for _ in range(4)]
             self.get("download", 503, what="payload", **query)
             self.assertEqual("1", self.ask("record", **query).headers["Retry-After"])

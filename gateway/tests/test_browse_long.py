@@ -67,8 +67,8 @@ class LongRecords(support.Pages):
             text = text_of(self.get(name, 502, **place))
             self.assertIn("The archive is damaged at byte 0: SeveralRecords.", text)
         for what in ("record", "payload"):
-            with self.assertRaises(BrokenPipeError):
-                self.ask("download", what=what, **place).get_data()
+            text = text_of(self.get("download", 502, what=what, **place))
+            self.assertIn("The archive is damaged at byte 0: SeveralRecords.", text)
 
     def test_what_follows_a_record_in_its_member_takes_bounded_time(self) -> None:
         self.get("captures", url=HOME)

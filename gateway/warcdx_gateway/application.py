@@ -3,9 +3,11 @@ import contextlib
 import errno
 import functools
 import importlib
+import ipaddress
 import json
 import socket
 import struct
+import threading
 import time
 from collections.abc import Callable, Generator, Iterable, Iterator, Mapping
 from dataclasses import dataclass
@@ -20,13 +22,13 @@ from werkzeug.wrappers import Request, Response
 from warcdx import FIELDS, Capture, Error, Fault, Refused, ReplyTooLate, ReplyTooLong
 
 from .answers import Answers, or_nothing
-from .collection import Collection, Source
+from .collection import Collection, Source, Work
 from .parameters import Form, translated
 from .plan import Plan, plan_of
 from .refusal import TEXT, Refusal, http_response, program_refusal, say, text_of
 from .rows import Output
 from .settings import Settings, is_loopback
-from .shared import Board, Metrics, Shares
+from .shared import Board, Lease, Metrics, Shares
 
 METHODS = ("GET", "HEAD")
 KINDS = {
@@ -51,7 +53,7 @@ HEALTH_SECONDS = 5
 LOOKS = 0.25  # seconds between two looks at the words of the master
 TRIES = 4  # to have the files of the master, in a look
 AGAIN = 0.05  # seconds after which they are tried again
-MOST_WHOLE = 1 << 16  # bytes of an answer that is made before it is sent
+MOST_WHOLE = 1 << 20  # bytes of an answer that is made before it is sent
 
 Handler = Callable[..., WSGIApplication]  # of the gateway, a request and the values of its path
 Headers = list[tuple[str, str]]
@@ -69,7 +71,14 @@ class GatewayRequest(Request):
             raise Refusal("NotText", "", "a query is in UTF-8") from None
 
 
-class Gateway:
+class Current(threading.local):
+    """The request that a thread answers: what it may do, and the connection of the client."""
+
+    lease: Optional[Lease] = None
+    client: Optional[socket.socket] = None
+
+
+class Gateway(Work):
     """Answers requests from collections."""
 
     def __init__(
@@ -83,7 +92,8 @@ class Gateway:
         self.settings = settings
         self.collections = collections
         self.main = collections[settings.main]
-        self.slot = shares.slot
+        self._shares = shares
+        self._current = Current()
         self.metrics = metrics
         self._board = board
         self._followed = b""
@@ -96,6 +106,8 @@ class Gateway:
         self._paths = Map(found, strict_slashes=False, merge_slashes=False).bind("")
         matched: Any = functools.partial(self._paths.match, return_rule=True)
         self._rule_of = functools.lru_cache(MOST_PATHS)(matched)
+        for each in collections.values():
+            each.work = self
 
     def collection(self, name: str) -> Collection:
         """Returns the collection of a name in a path, without one the main one. Raises NotFound."""
@@ -127,20 +139,38 @@ class Gateway:
             self._followed = text if all(followed) else b""
         return bool(self._followed) or not text
 
-    def source(self, collection: Collection, client: Optional[socket.socket] = None) -> Source:
-        """Returns what asks the indexes for an answer that may be wide or costly.
+    def begin(self, environ: WSGIEnvironment) -> Lease:
+        """Begins the work for a request in this thread, and returns its lease."""
+        lease = self._shares.lease(address_of(environ))
+        self.go_on_with(lease, environ.get("gunicorn.socket"))
+        return lease
 
-        It raises ConnectionResetError if the client has left with a reset.
+    def go_on_with(self, lease: Lease, client: Optional[socket.socket]) -> None:
+        """Goes on with the work for a request."""
+        self._current.lease, self._current.client = lease, client
+
+    def go_on(self) -> None:
+        """Is called between two pieces of the work for an answer, and shows the master that it goes on.
+
+        If the work takes long, raises ConnectionResetError if the client has left, and Refusal if
+        no slot is free. A client may close its own side after a short request.
         """
-
-        def beat() -> None:
-            self.beat()
+        self.beat()
+        lease, client = self._current.lease, self._current.client
+        if lease is not None and lease.is_over:
             if client is not None:
-                with contextlib.suppress(BlockingIOError):
-                    client.recv(1, socket.MSG_PEEK | socket.MSG_DONTWAIT)
+                expect_client(client)
+            lease.take()
 
+    def hold(self) -> None:
+        if self._current.lease is not None:
+            self._current.lease.take()
+
+    def source(self, collection: Collection, is_exact: bool = False) -> Source:
+        """Returns what asks the indexes for an answer, in the time of an exact query or of a wide one."""
         limits = self.settings.limits
-        return Source(collection, limits.wide, limits.query, beat)
+        seconds = limits.exact if is_exact else limits.wide
+        return Source(collection, seconds, limits.query)
 
     def captures(self, collection: Collection, query: str, limit: int) -> list[Capture]:
         """Returns the first captures that a query of the program selects, at most `limit`.
@@ -159,13 +189,8 @@ class Gateway:
     ) -> WSGIApplication:
         """Answers a query, by default that of the request, in a form of its parameters."""
         text = translated(request.query_text if query is None else query)
-        limits = self.settings.limits
-        plan = plan_of(text, form, limits)
-        if plan.is_exact:
-            source = Source(collection, limits.exact, limits.query, self.beat)
-        else:
-            source = self.source(collection, request.environ.get("gunicorn.socket"))
-        headers = collection.validators()
+        plan = plan_of(text, form, self.settings.limits)
+        source, headers = self.source(collection, plan.is_exact), collection.validators()
         if is_unchanged(request, headers):
             source.check()  # a query that is refused has no 304
             collection.index.text(plan.plain_query(plan.resume_key, 1))
@@ -173,22 +198,26 @@ class Gateway:
             return Response(status=304, headers=headers)
 
         def pieces() -> Generator[bytes, None, None]:
-            with contextlib.nullcontext() if plan.is_exact else self.slot():
-                made = self._answers.pieces(plan, source, collection.tag)
-                yield from or_nothing(made) if plan.is_array else made
+            made = self._answers.pieces(plan, source, collection.tag)
+            yield from or_nothing(made) if plan.is_array else made
 
-        return streamed(pieces(), [*headers.items(), ("Content-Type", kind_of(plan))])
+        kind = ("Content-Type", kind_of(plan))
+        return streamed(pieces(), [*headers.items(), kind], self.hold)
 
     def rows(self, collection: Collection, query: str) -> list[list[str]]:
         """Returns the rows of a query in the form of the Internet Archive, which names `fl`."""
         plan = plan_of(f"{query}&output=json", Form.WAYBACK, self.settings.limits)
-        with self.slot():
-            made = self._answers.pieces(plan, self.source(collection), collection.tag)
-            return list(json.loads(b"".join(made)))[1:]
+        made = self._answers.pieces(plan, self.source(collection), collection.tag)
+        return list(json.loads(b"".join(made)))[1:]
 
     def __call__(self, environ: WSGIEnvironment, start_response: StartResponse) -> Iterable[bytes]:
         start, request = time.monotonic(), GatewayRequest(environ, populate_request=False)
-        name, answer = self._answer(request)
+        lease = self.begin(environ)
+        try:
+            name, answer = self._answer(request)
+        except BaseException:  # the client has left, or the worker ends
+            lease.release()
+            raise
 
         def begin(status: str, headers: Headers, *rest: Any) -> Any:
             """Begins an answer with what each one has."""
@@ -198,7 +227,7 @@ class Gateway:
                 headers += self._sharing(environ.get("HTTP_ORIGIN", ""), headers)
             return start_response(status, headers, *rest)
 
-        return Sent(self, environ, start, answer(environ, begin))
+        return Sent(self, environ, start, answer(environ, begin), lease)
 
     def _answer(self, request: GatewayRequest) -> tuple[str, WSGIApplication]:
         """Returns the name of the collection, if there is one, and what answers."""
@@ -272,9 +301,11 @@ class Sent:
     environ: WSGIEnvironment
     start: float
     pieces: Iterable[bytes]
+    lease: Lease
     is_whole: bool = False
 
     def __iter__(self) -> Iterator[bytes]:
+        self.gateway.go_on_with(self.lease, self.environ.get("gunicorn.socket"))
         try:
             for piece in self.pieces:
                 self.gateway.beat()
@@ -297,6 +328,7 @@ class Sent:
         close = getattr(self.pieces, "close", None)
         if close is not None:
             close()
+        self.lease.release()
         self.gateway.metrics.seconds.observe(time.monotonic() - self.start)
 
     def _break(self, error: BaseException) -> None:
@@ -335,17 +367,20 @@ def show_metrics(gateway: Gateway, request: GatewayRequest) -> Response:
     return Response(gateway.metrics.text(), content_type=kind)
 
 
-def streamed(pieces: Generator[bytes, None, None], headers: Headers) -> WSGIApplication:
+def streamed(
+    pieces: Generator[bytes, None, None], headers: Headers, hold: Callable[[], None]
+) -> WSGIApplication:
     """Returns an answer whose pieces are made when they are sent.
 
     The first ones are made at once. So what fails until then has a status, and a short answer has
-    a length.
+    a length. `hold` is called before a long one begins.
     """
     begun, size = list[bytes](), 0
     for piece in pieces:
         begun.append(piece)
         size += len(piece)
         if size > MOST_WHOLE:
+            hold()
             return answer_of(headers, joined(begun, pieces))
     return answer_of([*headers, ("Content-Length", str(size))], [b"".join(begun)])
 
@@ -375,6 +410,28 @@ def is_unchanged(request: Request, headers: Mapping[str, str]) -> bool:
         return request.if_none_match.contains_weak(headers["ETag"].strip('"'))
     since = request.environ.get("HTTP_IF_MODIFIED_SINCE")
     return since is not None and since == headers.get("Last-Modified")
+
+
+def address_of(environ: WSGIEnvironment) -> Optional[str]:
+    """Returns the address of a client, or None if a server on this machine asks and doesn't say for whom.
+
+    An address of IPv6 is the network of 64 bits that one client has.
+    """
+    address = environ.get("REMOTE_ADDR", "")
+    if not address or is_loopback(address):
+        address = environ.get("HTTP_X_FORWARDED_FOR", "").rpartition(",")[2].strip()
+    try:
+        found = ipaddress.ip_address(address)
+    except ValueError:
+        return None
+    return str(ipaddress.ip_network((found, 64), strict=False) if found.version == 6 else found)
+
+
+def expect_client(client: socket.socket) -> None:
+    """Raises ConnectionResetError if a client has closed its connection."""
+    with contextlib.suppress(BlockingIOError):
+        if not client.recv(1, socket.MSG_PEEK | socket.MSG_DONTWAIT):
+            raise ConnectionResetError(errno.ECONNRESET, "the client has left")
 
 
 def preflight(methods: Iterable[str]) -> Response:

@@ -187,8 +187,7 @@ def available(gateway: Gateway, request: GatewayRequest) -> Response:
         if len(lines) > MOST_ASKED:
             raise Refusal("TooMany", "url", f"a request has at most {MOST_ASKED} lines")
         asked = [MultiDict(parse_qsl(line.strip())) for line in lines]
-        with gateway.slot():
-            found: object = {"results": [_available(gateway, request, each) for each in asked]}
+        found: object = {"results": [_available(gateway, request, each) for each in asked]}
     else:
         found = _available(gateway, request, request.args)
     return Response(json.dumps(found, ensure_ascii=False) + "\n", content_type=JSON)
@@ -231,12 +230,11 @@ def sparkline(gateway: Gateway, request: GatewayRequest) -> Response:
     years: dict[str, list[int]] = {}
     first = last = None
     query = f"url={quoted(request.args.get('url', ''))}&matchType=exact&fl=timestamp"
-    with gateway.slot():
-        for lines in source.lines(query):
-            for timestamp in map(bytes.decode, lines):
-                first, last = first or timestamp, timestamp
-                month = int(timestamp[4:6])
-                if 1 <= month <= 12:
-                    years.setdefault(timestamp[:4], [0] * 12)[month - 1] += 1
+    for lines in source.lines(query):
+        for timestamp in map(bytes.decode, lines):
+            first, last = first or timestamp, timestamp
+            month = int(timestamp[4:6])
+            if 1 <= month <= 12:
+                years.setdefault(timestamp[:4], [0] * 12)[month - 1] += 1
     found = {"years": years, "first_ts": first, "last_ts": last}
     return Response(json.dumps(found) + "\n", content_type=JSON)

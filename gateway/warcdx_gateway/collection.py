@@ -3,7 +3,7 @@ import hashlib
 import json
 import os
 import time
-from collections.abc import Callable, Generator, Iterator, Sequence
+from collections.abc import Generator, Iterator, Sequence
 from email.utils import formatdate
 from typing import Any, Optional
 
@@ -35,6 +35,7 @@ class Collection:
         self.title = each.title
         self.settings = each
         self.program = settings.program
+        self.work = Work()
         self.is_old = False
         self.is_usable = True
         self._limits = settings.limits
@@ -108,21 +109,29 @@ class Collection:
         self._date = formatdate(self.modified, usegmt=True)
 
 
+class Work:
+    """What a request does, without any bound. A gateway has one with bounds."""
+
+    def go_on(self) -> None:
+        """Is called between two pieces of the work for an answer. Raises what ends it."""
+
+    def hold(self) -> None:
+        """Is called before an answer begins that may take long. Raises Refusal if it has to wait."""
+
+
 class Source:
     """Asks an index for the captures of an answer, each time by one query of the program.
 
-    The answer may take `seconds`, and each piece of a reply `piece` seconds. The master learns by
-    `beat` that it goes on. A piece is yielded only if the files are those that were checked.
+    The answer may take `seconds`, and each piece of a reply `piece` seconds. A piece is yielded only
+    if the files are those that were checked.
     """
 
-    def __init__(
-        self, collection: Collection, seconds: float, piece: float, beat: Callable[[], None]
-    ) -> None:
+    def __init__(self, collection: Collection, seconds: float, piece: float) -> None:
         self._index = collection.index
         self._expect_unchanged = collection.expect_unchanged
         self._end = time.monotonic() + seconds
         self._piece = piece
-        self._beat = beat
+        self._work = collection.work
 
     def check(self) -> None:
         """Bounds the next piece of a reply. Raises Refusal if the time is over."""
@@ -131,7 +140,7 @@ class Source:
             cause = "the answer takes too long; restrict the query"
             raise Refusal("TooSlow", "", cause, status=503)
         self._index.seconds = min(self._piece, left)
-        self._beat()
+        self._work.go_on()
 
     def pieces(self, query: str) -> Iterator[bytes]:
         """Yields the page of a query as the program writes it."""

@@ -169,8 +169,7 @@ def time_map(gateway: Gateway, request: Request, collection: str, sent: str) -> 
 
 
 def time_map_of(gateway: Gateway, resource: Resource, start: str = "") -> Response:
-    with gateway.slot():
-        captures, following = resource.history.page(start or "0" * 14, MOST_MEMENTOS)
+    captures, following = resource.history.page(start or "0" * 14, MOST_MEMENTOS)
     if not captures:
         return Response("there is no capture of this URL\n", 404)
     first, last = captures[0], captures[-1]
@@ -207,7 +206,6 @@ def raw_capture(
     if links := resource.links(capture):
         own["Link"] = links
     with contextlib.ExitStack() as stack:
-        stack.enter_context(gateway.slot())
         raw = RawCapture(request, resource.collection, resource.history.ask, capture, stack)
         response = raw.response(own, functools.partial(_capture_of, resource, capture))
     return response

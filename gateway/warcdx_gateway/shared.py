@@ -1,5 +1,4 @@
-"""What the workers share: slots for costly requests, words of the master, and counts for Prometheus."""
-import contextlib
+"""What the workers share: slots for what takes long, words of the master, and counts for Prometheus."""
 import fcntl
 import hashlib
 import mmap
@@ -7,7 +6,8 @@ import os
 import pathlib
 import struct
 import time
-from collections.abc import Callable, Iterator
+import zlib
+from collections.abc import Callable, Iterable
 from typing import BinaryIO, Optional
 
 from prometheus_client import CollectorRegistry, generate_latest, multiprocess, values
@@ -15,7 +15,9 @@ from prometheus_client.metrics import Counter, Gauge, Histogram
 
 from .refusal import Refusal
 
-WAIT = 1.0  # seconds for a slot
+FREE = 0.05  # seconds of the processor that a worker may take for a request without a slot
+LONG = 0.5  # seconds until a request needs one in any case
+WAIT = 5.0  # seconds for a slot
 LOOKS = 0.02  # seconds between two looks for a slot
 BEATS = 0.25  # seconds between two beats
 FILE = 1 << 16  # bytes of a file of counts, as prometheus_client makes it
@@ -46,10 +48,13 @@ class Slots:
     def __init__(self, folder: pathlib.Path, name: str, count: int) -> None:
         self._paths = [folder / f"{name}-{number}" for number in range(count)]
 
-    def take(self) -> Optional[tuple[int, BinaryIO]]:
-        """Returns the number of a slot that was free and its open file, or None."""
-        for number, path in enumerate(self._paths):
-            file = open(path, "wb")
+    def take(self, numbers: Optional[Iterable[int]] = None) -> Optional[tuple[int, BinaryIO]]:
+        """Returns the number of a slot that was free and its open file, or None.
+
+        It is one of `numbers`, if they are given.
+        """
+        for number in range(len(self._paths)) if numbers is None else numbers:
+            file = open(self._paths[number], "wb")
             try:
                 fcntl.flock(file, fcntl.LOCK_EX | fcntl.LOCK_NB)
                 return number, file
@@ -59,35 +64,74 @@ class Slots:
 
 
 class Shares:
-    """How many workers answer wide or costly requests at a time, `wide` of `workers`.
+    """How many workers do at a time what takes long, `wide` of `workers`.
 
-    Of the others at most half wait for a slot, so that exact queries are always answered.
+    Of the others at most half wait for a slot, so that short requests are always answered. One
+    address has a share of the slots, so that another one finds a slot that is free, or is soon.
     """
 
     def __init__(self, folder: pathlib.Path, workers: int, wide: int) -> None:
         self._wide = Slots(folder, "wide", wide)
         self._waiting = Slots(folder, "waiting", (workers - wide) // 2)
+        self._count = wide
+        self._share = max(1, wide - max(1, wide // 3))
 
-    @contextlib.contextmanager
-    def slot(self) -> Iterator[None]:
-        """Takes a slot for a block, and waits a second for it. Raises Refusal with status 503."""
-        taken = self._wide.take() or self._waited()
+    def lease(self, address: Optional[str] = None) -> "Lease":
+        """Returns what a request of an address may do. Without an address, it has all slots."""
+        return Lease(self, address)
+
+    def take(self, address: Optional[str]) -> BinaryIO:
+        """Returns a slot, which is free again when it is closed. Raises Refusal with status 503."""
+        numbers = self._numbers_of(address)
+        taken = self._wide.take(numbers) or self._waited(numbers)
         if taken is None:
-            cause = "too many costly queries are being answered; ask again"
+            cause = "too many costly requests are being answered; ask again"
             raise Refusal("TooBusy", "", cause, status=503)
-        with taken[1]:
-            yield
+        return taken[1]
 
-    def _waited(self) -> Optional[tuple[int, BinaryIO]]:
+    def _numbers_of(self, address: Optional[str]) -> list[int]:
+        """Returns the slots that an address may have."""
+        if address is None:
+            return list(range(self._count))
+        first = zlib.crc32(address.encode())
+        return [(first + number) % self._count for number in range(self._share)]
+
+    def _waited(self, numbers: list[int]) -> Optional[tuple[int, BinaryIO]]:
         place, end = self._waiting.take(), time.monotonic() + WAIT
         if place is None:
             return None
         with place[1]:
             while time.monotonic() < end:
                 time.sleep(LOOKS)
-                if taken := self._wide.take():
+                if taken := self._wide.take(numbers):
                     return taken
         return None
+
+
+class Lease:
+    """What a request may do: it works freely for a moment, whatever it is, and then needs a slot."""
+
+    def __init__(self, shares: Shares, address: Optional[str]) -> None:
+        self._shares = shares
+        self._address = address
+        self._free = time.thread_time() + FREE
+        self._end = time.monotonic() + LONG
+        self._slot: Optional[BinaryIO] = None
+
+    @property
+    def is_over(self) -> bool:
+        """Whether the request has worked for so long that it needs a slot."""
+        return time.thread_time() > self._free or time.monotonic() > self._end
+
+    def take(self) -> None:
+        """Takes a slot, if the request has none. Raises Refusal if none is free."""
+        if self._slot is None:
+            self._slot = self._shares.take(self._address)
+
+    def release(self) -> None:
+        if self._slot is not None:
+            self._slot.close()
+            self._slot = None
 
 
 class Board:

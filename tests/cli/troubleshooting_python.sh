@@ -19,6 +19,7 @@ printf '#!/bin/sh\n[ "$1" != --help ] || exec "%s" "$@"\nkill -9 $$\n' "$program
 chmod 755 killed
 shows "a program that is killed" "warcdx has ended with signal 9" run_python verify --warcdx ./killed response.warc
 
+row "\`a pipe can be read only once, by list, verify or index; save it to a file\`"
 row "\`no index has a capture of it\`"
 "$program" index "$root/samples/response.warc" > response.cdxj
 shows "no capture" "no index has a capture of it" run_python fetch --warcdx "$program" --index response.cdxj http://example.com/none

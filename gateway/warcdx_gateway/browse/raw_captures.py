@@ -17,7 +17,6 @@ from .searching import NotShown
 
 MOST_FIELDS = 64  # of an archived head
 MOST_HEAD = 6000  # bytes of the fields that are passed on
-MOST_HELD = 1 << 20  # bytes of a payload that are read before its answer begins
 SENT = range(200, 600)  # the statuses that are passed on
 ARCHIVED = "X-Archive-Orig-"
 _TOKEN = re.compile(r"[!#$%&'*+.^_`|~0-9A-Za-z-]{1,100}")
@@ -70,9 +69,8 @@ class RawCapture:
             target = head.field("Location")
             if 300 <= status < 400 and target is not None and (where := location_of(target)):
                 headers["Location"] = where
-        pieces = reading.Download(self._stack, record, what)
-        held = pieces.held(MOST_HELD)
-        response = Response(pieces if held is None else held, status, headers)
+        pieces = reading.Download(self._stack, record, what, self._collection.work)
+        response = Response(pieces.held(), status, headers)
         response.headers["Content-Type"] = visible(kind) or "application/octet-stream"
         for name, value in archived_fields(head.fields if head else ()):
             response.headers.add(ARCHIVED + name, value)

@@ -4,7 +4,7 @@ import pathlib
 import re
 from collections.abc import Iterator
 from dataclasses import dataclass
-from typing import Optional
+from typing import Optional, Union
 
 from warcdx import Capture, Error, Fault, ReplyTooLate, Unreadable, faults, open_archive
 from warcdx.codings import Limits
@@ -12,10 +12,11 @@ from warcdx.http_messages import HttpHead
 from warcdx.record import Head, RecordStream
 from warcdx.record_digests import RecordCheck, Verdicts
 
-from ..collection import Collection
+from ..collection import Collection, Work
 from .searching import NotShown
 
 MOST_SHOWN = 4 << 20  # bytes of a payload that are shown
+MOST_HELD = 1 << 20  # bytes that are read before an answer begins
 MOST_VERIFIED = 1 << 28  # bytes of a block whose digest is compared for a page
 SILENCE = 10  # seconds for the program to find a record, and to unpack what follows it in its member
 # What unpacking a payload may take, for a page and for a download.
@@ -154,13 +155,14 @@ def reason_of(error: Error) -> str:
 def read(collection: Collection, capture: Capture) -> Read:
     """Reads a record, and the first MOST_SHOWN bytes of its payload. Raises NotShown."""
     with opened(collection, capture) as record:
-        return Read(record.head, record.http, record.length, _payload(record))
+        return Read(record.head, record.http, record.length, _payload(record, collection.work))
 
 
-def _payload(record: RecordStream) -> Payload:
+def _payload(record: RecordStream, work: Work) -> Payload:
     content, fault = bytearray(), ""
     try:
         for piece in record.payload(SHOWN):
+            work.go_on()
             content += piece
             if len(content) > MOST_SHOWN:
                 break
@@ -177,6 +179,7 @@ def verdicts(collection: Collection, capture: Capture) -> Optional[Verdicts]:
         if record.length > MOST_VERIFIED:
             return None
         for piece in record.whole():
+            collection.work.go_on()
             check.add(memoryview(piece))
     if not check.is_whole:
         raise NotShown("The record can't be read.", "The archive ends in it.", 502)
@@ -199,23 +202,30 @@ class Download:
     iterator, in place of the last piece, if the record isn't whole or its archive is damaged there.
     """
 
-    def __init__(self, stack: contextlib.ExitStack, record: RecordStream, what: str) -> None:
+    def __init__(
+        self, stack: contextlib.ExitStack, record: RecordStream, what: str, work: Work
+    ) -> None:
         self.head = record.head
         self.size = record.size if what == "record" else None
+        self._work = work
         self._pieces = _pieces_of(record, what)
         self._ahead = self._next()
         self._stack = stack.pop_all()
 
-    def held(self, most: int) -> Optional[bytes]:
-        """Returns the pieces if they have at most `most` bytes. If not, they stay to be read."""
+    def held(self) -> "Union[bytes, Download]":
+        """Returns the pieces joined, if they have at most MOST_HELD bytes, or this iterator over them.
+
+        So what fails until then has a status. Raises Refusal if a long answer has to wait.
+        """
         held = bytearray()
-        while len(held) <= most:
+        while len(held) <= MOST_HELD:
             piece = next(self, b"")
             if not piece:
                 return bytes(held)
             held += piece
         self._ahead = bytes(held) + self._ahead
-        return None
+        self._work.hold()
+        return self
 
     def __iter__(self) -> Iterator[bytes]:
         return self
@@ -236,6 +246,7 @@ class Download:
             self._stack.close()
 
     def _next(self) -> bytes:
+        self._work.go_on()
         try:
             return next(self._pieces, b"")
         except Unreadable as error:

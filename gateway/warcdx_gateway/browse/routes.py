@@ -104,29 +104,25 @@ def start(gateway: Gateway, collection: Collection, request: Request) -> Respons
 
 def search_of(gateway: Gateway, collection: Collection, request: Request) -> Response:
     query = request.args
-    with gateway.slot():
-        return search_page(
-            gateway, collection, Search.of(query), query.get("year", ""), query.get("after", "")
-        )
+    return search_page(
+        gateway, collection, Search.of(query), query.get("year", ""), query.get("after", "")
+    )
 
 
 def captures_of(gateway: Gateway, collection: Collection, request: Request) -> Response:
     query = request.args
-    with gateway.slot():
-        return captures_page(gateway, collection, Search.of(query), query.get("after", ""))
+    return captures_page(gateway, collection, Search.of(query), query.get("after", ""))
 
 
 def compare(gateway: Gateway, collection: Collection, request: Request) -> Response:
     places = [Place.of_text(request.args.get(name, "")) for name in ("first", "second")]
-    with gateway.slot():
-        captures = [place.capture(gateway, collection) for place in places]
-        return compare_page(gateway, collection, captures)
+    captures = [place.capture(gateway, collection) for place in places]
+    return compare_page(gateway, collection, captures)
 
 
 def record(gateway: Gateway, collection: Collection, request: Request) -> Response:
     capture = Place.of(request.args).capture(gateway, collection)
-    with gateway.slot():
-        return record_page(gateway, collection, capture)
+    return record_page(gateway, collection, capture)
 
 
 def payload(gateway: Gateway, collection: Collection, request: Request) -> Response:
@@ -137,15 +133,14 @@ def payload(gateway: Gateway, collection: Collection, request: Request) -> Respo
     if request.headers.get("Sec-Fetch-Dest") == WINDOW:
         return responses.redirect(f"record?{request.query_string.decode('latin-1')}")
     capture = Place.of(request.args).capture(gateway, collection)
-    with gateway.slot():
-        record = reading.read(collection, capture)
-        kind = record.shown_type
-        if kind is None:
-            why = "Its type isn't one that these pages show. It can be saved."
-            raise NotShown("The payload isn't shown.", why, 415)
-        content = record.payload.content
-        if record.is_html:
-            content = embedding.embedded(gateway, collection, capture, record)
+    record = reading.read(collection, capture)
+    kind = record.shown_type
+    if kind is None:
+        why = "Its type isn't one that these pages show. It can be saved."
+        raise NotShown("The payload isn't shown.", why, 415)
+    content = record.payload.content
+    if record.is_html:
+        content = embedding.embedded(gateway, collection, capture, record)
     return Response(content, 200, responses.payload_headers(), content_type=kind)
 
 
@@ -156,10 +151,11 @@ def download(gateway: Gateway, collection: Collection, request: Request) -> Resp
         raise NotShown("The download was refused.", "A record or its payload can be saved.")
     capture = place.capture(gateway, collection)
     with contextlib.ExitStack() as stack:
-        stack.enter_context(gateway.slot())
-        opened = Download(stack, stack.enter_context(reading.opened(collection, capture)), what)
+        record = stack.enter_context(reading.opened(collection, capture))
+        opened = Download(stack, record, what, collection.work)
+    content = opened.held()
     headers = responses.attachment_headers(_file_name(opened, place, what))
-    response = Response(opened, 200, headers, content_type="application/octet-stream")
+    response = Response(content, 200, headers, content_type="application/octet-stream")
     if opened.size is not None:
         response.content_length = opened.size
     return response
