@@ -8,6 +8,7 @@ import resource
 import signal
 import subprocess
 import sys
+import threading
 import time
 import unittest
 from typing import Any
@@ -79,6 +80,9 @@ class Quiet(Runs):
         self.put_bytes("bad.warc", BAD)
         with subprocess.Popen(self.command("--quiet", "--jobs", "2", "pipe", "bad.warc"), cwd=self.folder, stdout=subprocess.PIPE) as process:
             assert process.stdout is not None
+            timer = threading.Timer(WAIT, process.terminate)
+            timer.start()
+            self.addCleanup(timer.cancel)
             self.assertEqual(b"bad.warc: 0 differs absent\n", process.stdout.readline())
             process.send_signal(signal.SIGTERM)
             self.assertEqual((b"", -signal.SIGTERM), (process.stdout.read(), process.wait(timeout=WAIT)))
@@ -261,6 +265,12 @@ class Resume(Runs):
             change()
             notes.end(0, str(path), True)
             self.assertFalse(notes.has(str(path)))
+        os.utime(path, ns=(1, 1))
+        notes.begin(0, str(path))
+        path.write_bytes(BAD)
+        os.utime(path, ns=(1, 1))  # so that only the time of the inode differs
+        notes.end(0, str(path), True)
+        self.assertFalse(notes.has(str(path)))
         notes.begin(0, str(path))
         notes.end(0, str(path), True)
         self.assertTrue(notes.has(str(path)))

@@ -4,14 +4,24 @@ import itertools
 import random
 import tracemalloc
 import unittest
+from collections.abc import Iterator
+from typing import Optional
 from unittest import mock
 
-from warcdx import faults, open_archive, usual_records
+from warcdx import Archive, faults, open_archive, usual_records
 from warcdx.record_digests import Verdict
 from warcdx.verifying import check_archive
 
 from .support import PROGRAM, Case, packed
 from .test_verify import HTTP, OF_ABC, http, record, sha1_of
+
+
+def archive_offsets(archive: Archive) -> Iterator[Optional[int]]:
+    """Yields the offset of each record that the program lists, and of the fault after them."""
+    try:
+        yield from (each.offset for each in archive.list())
+    except faults.Fault as error:
+        yield error.offset
 
 
 class Files(Case):
@@ -37,21 +47,22 @@ class Files(Case):
         last = long[:-1] + b"x"
         for texts, fault in (
             ([long, folded, long], None), ([long, last, long], faults.Closing), ([long, long[:-100]], faults.ShortBlock),
-            ([long, long.replace(b": 2000000", b": 1999999"), long], faults.Closing), ([long, long.replace(b": 2000000", b": 2000001")], None),
+            ([long, long.replace(b": 2000000", b": 1999999"), long], faults.Closing), ([long, long.replace(b": 2000000", b": 2000001")], faults.Fault),
+            ([long, long + b"x", long], faults.Fault), ([long, long + long, b"x"], faults.Fault),
         ):  # fmt: skip
             for pieces in (texts, packed(*texts)):
                 path = self.folder / "a"
                 path.write_bytes(b"".join(pieces))
                 archive = open_archive(path, program=PROGRAM)
-                found = []
+                found, wanted = [], list(archive_offsets(archive))
                 try:
                     for each in check_archive(archive):
-                        found.append(each)
+                        found.append(each.offset)
                 except faults.Fault as error:
                     found.append(error.offset)
-                    self.assertIsInstance(error, fault or faults.Fault)
-                self.assertEqual(len(pieces[0]), found[1] if isinstance(found[1], int) else found[1].offset)
-                self.assertEqual(fault is None and texts[1] is folded, len(found) == 3)
+                    self.assertIsInstance(error, fault or ())
+                self.assertEqual(wanted, found, texts[1][-9:])
+                self.assertIn(len(pieces[0]), found)
 
     def test_long_records_take_little_memory(self) -> None:
         text = record(bytes(40_000_000), sha1_of(bytes(40_000_000)))
