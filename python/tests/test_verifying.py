@@ -16,12 +16,12 @@ from .support import PROGRAM, Case, packed
 from .test_verify import HTTP, OF_ABC, http, record, sha1_of
 
 
-def archive_offsets(archive: Archive) -> Iterator[Optional[int]]:
-    """Yields the offset of each record that the program lists, and of the fault after them."""
+def places_of(archive: Archive) -> Iterator[tuple[str, Optional[int]]]:
+    """Yields the offset of each record that the program lists, and the fault after them with its own."""
     try:
-        yield from (each.offset for each in archive.list())
+        yield from (("record", each.offset) for each in archive.list())
     except faults.Fault as error:
-        yield error.offset
+        yield error.name, error.offset
 
 
 class Files(Case):
@@ -54,15 +54,15 @@ class Files(Case):
                 path = self.folder / "a"
                 path.write_bytes(b"".join(pieces))
                 archive = open_archive(path, program=PROGRAM)
-                found, wanted = [], list(archive_offsets(archive))
+                found: list[tuple[str, Optional[int]]] = []
                 try:
                     for each in check_archive(archive):
-                        found.append(each.offset)
+                        found.append(("record", each.offset))
                 except faults.Fault as error:
-                    found.append(error.offset)
+                    found.append((error.name, error.offset))
                     self.assertIsInstance(error, fault or ())
-                self.assertEqual(wanted, found, texts[1][-9:])
-                self.assertIn(len(pieces[0]), found)
+                self.assertEqual(list(places_of(archive)), found, texts[1][-9:])
+                self.assertIn(len(pieces[0]), [offset for _, offset in found])
 
     def test_long_records_take_little_memory(self) -> None:
         text = record(bytes(40_000_000), sha1_of(bytes(40_000_000)))
