@@ -47,7 +47,8 @@ class Collections(Case):
                     with collection.stream(capture) as stream:
                         self.assertEqual(record.block, b"".join(stream.block()))
         self.assertEqual(33, len(found[0]))
-        self.assertEqual(sorted(map(repr, found[0])), sorted(map(repr, found[1])))
+        plain_records, packed_records = (sorted(records, key=lambda each: (each.fields, each.block)) for records in found)
+        self.assertEqual(plain_records, packed_records)
 
     def test_only_the_record_is_read(self) -> None:
         first, record = resource(bytes(1_000_000)), resource(b"abc")

@@ -12,7 +12,7 @@ from typing import NamedTuple
 
 from warcdx.cdx import BadRow, _cdx_line, _rows
 from warcdx.codings import Unreadable
-from warcdx.errors import error_of
+from warcdx.reported import error_of
 from warcdx.http_messages import HttpHead, Message
 from warcdx.record import Head, Record, payload
 from warcdx.reply import refusal_of, text_of

@@ -1,6 +1,7 @@
 """The exit statuses of programs where the system keeps none: SIGCHLD is ignored, or another part of a process takes them."""
 import os
 import pathlib
+import pickle
 import signal
 import subprocess
 import sys
@@ -10,9 +11,9 @@ import unittest
 from collections.abc import Callable
 from typing import Any
 
-from warcdx import ProgramEnded
+from warcdx import Archive, CompressedArchive, ProgramEnded
 from warcdx.errors import NO_STATUS
-from warcdx.program import Process
+from warcdx.program import Process, find_program
 
 from .support import PROGRAM, WAIT, Case, lines, packed, resource
 
@@ -146,6 +147,17 @@ class Package(Case):
             str(ProgramEnded(NO_STATUS, "")),
         )
         self.assertEqual("warcdx has ended with exit status 3: x", str(ProgramEnded(3, "x\n")))
+
+    def test_the_message_names_the_program(self) -> None:
+        for name, kind in (("warcdx", Archive), ("warcdx-gz", CompressedArchive)):
+            program = os.path.join(os.path.dirname(find_program(PROGRAM)), name)
+            killed = self.script(f'[ "$1" != --help ] || exec {program} "$@"; kill -9 $$')
+            os.rename(killed, self.folder / f"{name}-1")  # whatever the name of its file is
+            archive = kind(self.put("x"), program=str(self.folder / f"{name}-1"))
+            ended = self.raises(ProgramEnded, list, archive.list())
+            self.assertEqual(f"{name} has ended with signal 9", str(ended))
+            self.assertEqual((-9, name), (ended.status, ended.program))
+            self.assertEqual(str(ended), str(pickle.loads(pickle.dumps(ended))))
 
 
 if __name__ == "__main__":

@@ -11,7 +11,7 @@ from collections.abc import Sequence
 from typing import Any, NoReturn
 from unittest import mock
 
-from warcdx import update, update_command, update_counts, update_task
+from warcdx import progress, update, update_counts, update_task
 from warcdx.update import Outcome, Programs, Said, Update
 from warcdx.update_counts import Counts, Made
 from warcdx.update_files import CannotUpdate, Fingerprint
@@ -284,7 +284,7 @@ class LevelsTest(unittest.TestCase):
             programs = Programs((PROGRAM,), (PROGRAM,))
             with mock.patch.object(update, "merge_parts", merge):
                 settings = Settings.of(str(folder), False, None)
-                work = Update(settings, results, programs, lambda: local_workers(2), update_command.Silent())
+                work = Update(settings, results, programs, lambda: local_workers(2), progress.Silent())
                 outcomes: list[Outcome] = []
                 self.assertEqual(work.run(Removal(0, False), lambda found: outcomes.append(found) or Said(5, [])), 5)
             (outcome,) = outcomes

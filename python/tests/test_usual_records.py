@@ -5,6 +5,7 @@ import pathlib
 import threading
 import tracemalloc
 import unittest
+from typing import Optional
 from unittest import mock
 
 from warcdx import Archive, Collection, Record, Unreadable, faults, open_archive, payload
@@ -64,6 +65,20 @@ class Archives(Case):
             with mock.patch("warcdx.archive.running", side_effect=AssertionError), archive as opened:
                 self.assertEqual([Record.read(record) for record in records], list(opened))
                 self.assertEqual([Record.read(record) for record in records], list(opened))
+
+    def test_records_know_where_they_are(self) -> None:
+        records = [RECORD, resource(1, bytes(5000)), RECORD, FOLDED, RECORD]
+        for archive in self.archives(*records):
+            places: list[tuple[Optional[int], Optional[int]]] = [(each.offset, each.length) for each in archive.list()]
+            found = list(archive)
+            places[3] = (places[3][0], None)  # the program writes it, and not its length
+            self.assertEqual(places, [(each.offset, each.length) for each in found])
+            self.assertEqual(found[0], found[2])  # wherever they are
+            for offset, length in places:
+                assert offset is not None
+                record = archive.record(offset, length=length)
+                self.assertEqual((offset, length), (record.offset, record.length))
+        self.assertEqual((None, None), (Record.read(RECORD).offset, Record.read(RECORD).length))
 
     def test_one_record_is_read_without_the_program(self) -> None:
         records = [resource(number, bytes(number)) for number in range(9)]

@@ -30,6 +30,7 @@ cause has a class in `faults`, and each refusal one in `refusals`. docs/PYTHON.m
 """
 from . import faults, refusals
 from .archive import Archive, CompressedArchive, Listed, Verified, open_archive
+from .codings import Limits
 from .collection import Collection
 from .errors import (
     Error,
@@ -43,8 +44,10 @@ from .errors import (
     ReplyTooLate,
     ReplyTooLong,
 )
+from .fields import FIELDS
+from .http_messages import HttpHead
 from .index import Index
-from .query import FIELDS, Capture, Page
+from .query import Capture, Page
 from .record import Record, Unreadable, payload
 
 __version__ = "0.1.0"
@@ -57,7 +60,9 @@ __all__ = [
     "CompressedArchive",
     "Error",
     "Fault",
+    "HttpHead",
     "Index",
+    "Limits",
     "Listed",
     "NoArchive",
     "Page",

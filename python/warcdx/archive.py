@@ -9,10 +9,11 @@ from collections.abc import Iterator
 from types import TracebackType
 from typing import IO, NamedTuple, Optional, TypeVar
 
-from .errors import Fault, ProgramError, fault
+from .errors import Fault, ProgramError
 from .faults import NoRecord, Read, cannot_open
 from .program import Path, find_packed_program, find_program, memory_file, operand, running, started, write_output
 from .record import CLOSING, Record, RecordStream, Unreadable
+from .reported import fault
 from .usual_records import MAGIC, MOST, ArchiveFile, usual_record
 
 FAULTY = 1  # the exit status after a fault that is on the output, and after a digest that differs
@@ -96,8 +97,8 @@ class Archive:
         """
         file = None
         try:
-            with ArchiveFile(self.path) as file:
-                yield from file.packed_records() if self._is_packed(file) else file.plain_records()
+            with self.opened() as (file, is_packed):
+                yield from file.records(is_packed)
         except (OSError, ValueError):
             pass  # the program says why the file can't be read
         if file is None or file.end < file.size:
@@ -122,7 +123,7 @@ class Archive:
         fault. The record is held in memory.
         """
         text = self._text_at(offset, length, MOST)
-        found = None if text is None else usual_record(text)
+        found = None if text is None else usual_record(text, offset, length)
         return self._record_by_program(offset, length) if found is None else found
 
     get = record
@@ -180,6 +181,12 @@ class Archive:
         only = () if length is None else ("--length", str(length))
         return self._program, "get", *only, str(offset), self.path
 
+    @contextlib.contextmanager
+    def opened(self) -> Iterator[tuple[ArchiveFile, bool]]:
+        """Opens the file, and yields it and whether it is compressed. Raises OSError or ValueError."""
+        with ArchiveFile(self.path) as file:
+            yield file, self._is_packed(file)
+
     def __enter__(self: "_Archive") -> "_Archive":
         return self
 
@@ -208,7 +215,7 @@ class Archive:
     def _record_by_program(self, offset: int, length: Optional[int] = None) -> Record:
         with running(*self._get(offset, length)) as output:
             text = output.read()
-        return Record.read(text)
+        return Record.read(text, offset, length)
 
     def _further_records(self, start: int) -> Iterator[Record]:
         """Yields the records from an offset on, of which the program says where they are and what is at fault."""
@@ -224,7 +231,10 @@ class Archive:
         for listed in self.list():
             if listed.offset >= start:
                 text = self._text_at(listed.offset, listed.length, MOST)
-                yield self._record_by_program(listed.offset, listed.length) if text is None else Record.read(text)
+                if text is None:
+                    yield self._record_by_program(listed.offset, listed.length)
+                else:
+                    yield Record.read(text, listed.offset, listed.length)
 
     def _opened(self) -> IO[bytes]:
         try:

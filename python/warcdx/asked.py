@@ -2,9 +2,9 @@
 import re
 from typing import NamedTuple, Optional
 
-from .errors import refused
 from .parameters import NAMES
 from .query import Query, Texts, Value
+from .reported import refused
 from .stamps import Moment, stamp_of
 
 _QUERY_TEXT = re.compile("&*[A-Za-z0-9%+_]*[=&]")  # how a query text begins, and no URL does

@@ -28,7 +28,10 @@ class WithFields:
     def field(self, name: str) -> Optional[str]:
         """Returns the value of the first field of a name, in any case, or None."""
         wanted = name.lower()
-        return next((value for found, value in self.fields if found.lower() == wanted), None)
+        for found, value in self.fields:
+            if found.lower() == wanted:
+                return value
+        return None
 
 
 def unfolded(lines: Sequence[str]) -> list[str]:

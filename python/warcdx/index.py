@@ -6,12 +6,12 @@ from types import TracebackType
 from typing import Any, Optional, Union
 
 from .asked import Asked
-from .errors import Refused, refused
+from .errors import Refused
 from .faults import cannot_open
+from .fields import FIELDS
 from .parameters import parameter_of
 from .program import Path, find_program, operand
 from .query import (
-    FIELDS,
     MOST_LIMIT,
     Capture,
     Page,
@@ -25,6 +25,7 @@ from .query import (
     rows_query,
     split_rows,
 )
+from .reported import refused
 from .serve import Serve
 from .stamps import Moment
 

@@ -4,7 +4,8 @@ from collections.abc import Callable
 from typing import Optional
 from urllib.parse import unquote_plus
 
-from .query import FIELDS, Query
+from .fields import FIELDS
+from .query import Query
 
 _REPEATABLE = ("filter", "is", "isnot", "has", "hasnot")
 _ONCE = (

@@ -15,7 +15,8 @@ from collections.abc import Callable, Iterator
 from typing import IO, Any, Optional, Union
 
 from .ending import blocked
-from .errors import NO_STATUS, Error, Fault, ProgramError, ProgramMissing, ProgramTooOld, ReplyTooLate, error_of
+from .errors import NO_STATUS, Error, Fault, ProgramError, ProgramMissing, ProgramTooOld, ReplyTooLate
+from .reported import error_of
 from .streams import whole
 
 Path = Union[str, os.PathLike[str]]
@@ -26,6 +27,7 @@ _ROOM = 1 << 16  # bytes, more than the block of a file that the program has beg
 _PIECE = 1 << 20  # bytes of an output
 _SCARCE = (errno.EMFILE, errno.ENFILE, errno.EAGAIN)  # too many files or processes
 _PAUSE = 0.01  # seconds between two looks at a program that may end
+_names: dict[str, str] = {}  # of the programs that were found, by their paths
 _HELP = re.compile(rb"(warcdx|warcdx-gz) ([0-9]+)\.([0-9]+)\.([0-9]+)")
 
 
@@ -77,7 +79,7 @@ def check_version(path: str) -> str:
     if version < LEAST_VERSION:
         need = ".".join(map(str, LEAST_VERSION))
         raise ProgramTooOld(f"{path}: version {'.'.join(map(str, version))}, but {need} is needed")
-    return found[1].decode()
+    return _names.setdefault(path, found[1].decode())
 
 
 def _not_started(path: str, error: OSError) -> Exception:
@@ -102,6 +104,7 @@ class Process(subprocess.Popen[bytes]):
     """
 
     def __init__(self, *arguments: Any, **options: Any) -> None:
+        self.path: str = arguments[0][0]
         self._turn = threading.Lock()  # of the one thread that takes the status
         super().__init__(*arguments, **options)
 
@@ -197,7 +200,8 @@ def end_of(process: Process, said: IO[bytes]) -> Error:
     """Waits for a program that doesn't go on, and returns what it has reported."""
     status = process.wait()
     said.seek(0)
-    return error_of(status, os.fsdecode(said.read()))  # a path in it is as it was given
+    name = _names.get(process.path, "warcdx")
+    return error_of(status, os.fsdecode(said.read()), name)  # a path in it is as it was given
 
 
 def fault_of(process: Process, said: IO[bytes], output: IO[bytes]) -> Optional[Fault]:

@@ -12,7 +12,6 @@ Texts = Union[str, Iterable[str]]
 Value = Union[Moment, Texts]
 RowPage = tuple[list[list[str]], Optional[str]]  # the rows of a page, and the resume key of the next
 
-FIELDS = ("urlkey", "timestamp", "original", "mimetype", "statuscode", "digest", "length", "offset", "filename")
 MOST_LIMIT = 1_000_000  # the largest limit of the program
 MOST_TEXT = 65_536  # bytes of a query text
 _LIMIT = re.compile("[0-9]{1,7}")

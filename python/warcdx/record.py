@@ -4,7 +4,7 @@ import datetime
 import functools
 import re
 from collections.abc import Iterator
-from dataclasses import dataclass
+from dataclasses import dataclass, field
 from typing import IO, Optional, Union
 
 from .codings import UNLIMITED, Limits, Unreadable
@@ -62,17 +62,23 @@ class Head(WithFields):
 
 @dataclass(frozen=True)
 class Record(Head):
-    """A record: the fields of its head, and its block."""
+    """A record: the fields of its head, and its block. Records that have the same are equal, wherever they are.
+
+    `offset` and `length` are where it is in the file of its archive, in bytes, or None if that isn't known. In a
+    compressed archive they are those of its member.
+    """
 
     block: bytes
+    offset: Optional[int] = field(default=None, compare=False)
+    length: Optional[int] = field(default=None, compare=False)
 
     @classmethod
-    def read(cls, record: bytes) -> "Record":
+    def read(cls, record: bytes, offset: Optional[int] = None, length: Optional[int] = None) -> "Record":
         """Returns the record of these bytes, as `warcdx get` writes them. Raises Unreadable."""
         head, found, rest = record.partition(CLOSING)
         if not found or not rest.endswith(CLOSING):
             raise Unreadable("the input isn't a record")
-        return cls(cls.fields_of(head), rest[: -len(CLOSING)])
+        return cls(cls.fields_of(head), rest[: -len(CLOSING)], offset, length)
 
     @functools.cached_property
     def http(self) -> Optional[HttpHead]:

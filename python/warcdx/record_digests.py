@@ -41,6 +41,37 @@ class Verdicts(NamedTuple):
     payload: Verdict
 
 
+class BlockCheck:
+    """A block that is read in pieces. It has `length` bytes."""
+
+    def __init__(self, head: Head, length: int) -> None:
+        self._is_revisit = head.kind == "revisit"
+        block, payload = self._digests = _wanted(head, BLOCK_DIGEST), _wanted(head, PAYLOAD_DIGEST)
+        self._computed = block.start() if isinstance(block, Digest) else None
+        self._payload = _Payload(payload, head.is_http, length) if isinstance(payload, Digest) else None
+
+    def add(self, piece: bytes) -> None:
+        if self._computed is not None:
+            self._computed.update(piece)
+        if self._payload is not None:
+            self._payload.add(piece)
+
+    def verdicts(self) -> Verdicts:
+        """Returns the verdicts of a whole block."""
+        block, payload = self._digests
+        if isinstance(block, Digest):
+            block = self._compare(block)
+        if isinstance(payload, Digest):
+            payload = Verdict.UNKNOWN if self._payload is None else self._payload.verdict()
+        return Verdicts(block, payload)
+
+    def _compare(self, digest: Digest) -> Verdict:
+        if self._computed is not None and digest.is_of(self._computed):
+            return Verdict.SAME
+        # So writes GNU Wget.
+        return Verdict.EMPTY if self._is_revisit and digest.is_of(digest.start()) else Verdict.DIFFERS
+
+
 class RecordCheck:
     """A record that is read in pieces. `size` is its length in bytes, which is known when its head was read."""
 
@@ -64,10 +95,8 @@ class RecordCheck:
         block = piece[: self._left]
         self._left -= len(block)
         self._taken += len(block)
-        if block and self._computed is not None:
-            self._computed.update(block)
-        if block and self._payload is not None:
-            self._payload.add(bytes(block))
+        if block:
+            self._block.add(bytes(block))
         piece = piece[len(block) :]
         end = piece[: self.size - self._taken if not self._left else 0]
         self._taken += len(end)
@@ -75,12 +104,7 @@ class RecordCheck:
 
     def verdicts(self) -> Verdicts:
         """Returns the verdicts of a whole record."""
-        block, payload = self._digests
-        if isinstance(block, Digest):
-            block = self._compare(block)
-        if isinstance(payload, Digest):
-            payload = Verdict.UNKNOWN if self._payload is None else self._payload.verdict()
-        return Verdicts(block, payload)
+        return self._block.verdicts()
 
     def _add_to_head(self, piece: memoryview) -> memoryview:
         """Returns what is after the head."""
@@ -102,16 +126,7 @@ class RecordCheck:
             raise Unreadable("the record has no length")
         self._left = int(length)
         self.size = self._taken + self._left + len(CLOSING)
-        self._is_revisit = head.kind == "revisit"
-        block, payload = self._digests = _wanted(head, BLOCK_DIGEST), _wanted(head, PAYLOAD_DIGEST)
-        self._computed = block.start() if isinstance(block, Digest) else None
-        self._payload = _Payload(payload, head.is_http, self._left) if isinstance(payload, Digest) else None
-
-    def _compare(self, digest: Digest) -> Verdict:
-        if self._computed is not None and digest.is_of(self._computed):
-            return Verdict.SAME
-        # So writes GNU Wget.
-        return Verdict.EMPTY if self._is_revisit and digest.is_of(digest.start()) else Verdict.DIFFERS
+        self._block = BlockCheck(head, self._left)
 
 
 def _wanted(head: Head, name: str) -> Union[Digest, Verdict]:

@@ -1,6 +1,6 @@
 """Why a query is refused, by the names that docs/QUERY.md has."""
 from .errors import Refused
-from .query import FIELDS
+from .fields import FIELDS
 
 
 class QueryTooLong(Refused):

@@ -3,7 +3,8 @@ import json
 import re
 from typing import NoReturn, Optional, Union
 
-from .errors import Refused, fault, refused
+from .errors import Refused
+from .reported import fault, refused
 
 # The end of the reply to a query for `output=json`.
 MARK = b".\n"

@@ -3,7 +3,7 @@ import datetime
 import re
 from typing import Optional, Union
 
-from .errors import refused
+from .reported import refused
 
 Moment = Union[str, int, datetime.date, None]  # a datetime.datetime is a datetime.date
 _ISO = (

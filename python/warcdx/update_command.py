@@ -27,12 +27,13 @@ import os
 import re
 from collections import Counter
 from collections.abc import Callable, Iterator, Sequence
-from typing import Any, BinaryIO, Optional
+from typing import BinaryIO, Optional
 
 from . import __version__, update_task
 from .command import FAILED, Parser, printable, report, run
 from .errors import Error
 from .program import PACKED, find_program, packed_program_of
+from .progress import Lines, Silent, bar_on_terminal
 from .update import Outcome, Programs, Progress, Said, Update
 from .update_files import CannotUpdate
 from .update_reports import Action, Report
@@ -130,63 +131,8 @@ def cluster_workers(address: str) -> Iterator[Workers]:
             raise
 
 
-class Silent:
-    """Shows nothing."""
-
-    def begin(self, archives: int, size: int) -> None: ...
-
-    def advance(self, size: int) -> None: ...
-
-    def end(self) -> None: ...
-
-
-class Lines:
-    """Prints a line for each hundredth of the bytes."""
-
-    def __init__(self) -> None:
-        self._archives = self._done = self._size = self._done_size = self._hundredths = 0
-
-    def begin(self, archives: int, size: int) -> None:
-        self._archives, self._size = archives, size
-
-    def advance(self, size: int) -> None:
-        self._done += 1
-        self._done_size += size
-        hundredths = 100 * self._done_size // max(self._size, 1)
-        if hundredths > self._hundredths or self._done == self._archives:
-            self._hundredths = hundredths
-            report(NAME, f"{self._done:,} of {self._archives:,} archives, {hundredths} %")
-
-    def end(self) -> None: ...
-
-
-class Bar:
-    """Shows the bytes that are done and the time that is left, by the module tqdm."""
-
-    def __init__(self, tqdm: Any) -> None:
-        self._tqdm = tqdm
-        self._bar: Any = None
-
-    def begin(self, archives: int, size: int) -> None:
-        self._bar = self._tqdm(total=size, unit="B", unit_scale=True, desc=f"{archives:,} archives", leave=False)
-
-    def advance(self, size: int) -> None:
-        self._bar.update(size)
-
-    def end(self) -> None:
-        self._bar.close()
-
-
 def progress_of(given: argparse.Namespace) -> Progress:
-    if given.quiet:
-        return Silent()
-    if os.isatty(2):
-        with contextlib.suppress(ImportError):
-            from tqdm import tqdm
-
-            tqdm.monitor_interval = 0
-            return Bar(tqdm)
-    return Lines()
+    return Silent() if given.quiet else bar_on_terminal() or Lines(NAME)
 
 
 def print_plan(given: argparse.Namespace, work: Update, results: Results, settings: Settings, output: BinaryIO) -> None:

@@ -6,7 +6,8 @@ import re
 from collections.abc import Callable, Iterable, Iterator
 from typing import IO, Any, NamedTuple, Optional, Union
 
-from .update_files import CannotUpdate, read, write_new
+from .files import write_new
+from .update_files import CannotUpdate, read
 from .update_task import FAULT, state_of
 
 HEAD = json.dumps({"form": 2}) + "\n"  # the first line

@@ -12,8 +12,9 @@ from collections.abc import Iterable, Iterator
 from typing import IO, Any, NamedTuple, Optional
 
 from .ending import blocked
+from .files import is_in, is_regular, move, remove, write_new, write_to_disk
 from .update_counts import Made
-from .update_files import CannotUpdate, Fingerprint, is_in, is_regular, move, read, remove, write_new, write_to_disk
+from .update_files import CannotUpdate, Fingerprint, read
 from .update_folder import Archive, Found
 from .update_log import PART, Identity, Log, Part
 from .update_settings import LOCK, Marked, Settings, mark, marked, unmarked_if_failed

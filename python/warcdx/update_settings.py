@@ -11,7 +11,8 @@ import uuid
 from collections.abc import Collection, Iterator
 from typing import Any, NamedTuple, Optional
 
-from .update_files import CannotUpdate, is_regular, read, remove, write_new
+from .files import is_regular, remove, write_new
+from .update_files import CannotUpdate, read
 from .update_task import Failed
 
 NAME = "settings.json"

@@ -6,13 +6,14 @@ all records of crawls pass it. Nothing here raises a fault. `None` says that the
 """
 import datetime
 import functools
+import itertools
 import os
 import re
 import stat
 import zlib
 from collections.abc import Iterator
 from types import TracebackType
-from typing import Optional
+from typing import NamedTuple, Optional
 
 from .http_messages import Fields
 from .record import CLOSING, Record
@@ -20,6 +21,7 @@ from .record import CLOSING, Record
 MAGIC = b"\x1f\x8b"  # what a compressed archive begins with, and each of its members
 MOST = 1 << 26  # bytes of a record that is read here
 _MOST_HEAD = 1 << 16  # bytes of a usual head; the program takes longer ones
+_MOST_HELD = 1 << 20  # bytes of a record that isn't read in pieces
 _AHEAD = 1 << 16  # bytes of an archive that are read at once
 _PACKED = 1 << 13  # bytes that are unpacked from at once: what follows a member is copied
 _GZIP = 16 + zlib.MAX_WBITS
@@ -82,13 +84,49 @@ def _is_day(text: str) -> bool:
     return True
 
 
-def usual_record(text: bytes) -> Optional[Record]:
-    """Returns the record that a text is, or None if it isn't exactly one record of the usual form."""
+def usual_record(text: bytes, offset: Optional[int] = None, length: Optional[int] = None) -> Optional[Record]:
+    """Returns the record that a text is, or None if it isn't exactly one record of the usual form.
+
+    `offset` and `length` are where it is in its file.
+    """
+    found = _usual_parts(text)
+    return Record(*found, offset, length) if found else None
+
+
+def _usual_parts(text: bytes) -> Optional[tuple[Fields, bytes]]:
+    """Returns the fields and the block of the record that a text is, or None."""
     head = usual_head(text)
     if head is None or not text.endswith(CLOSING):
         return None
     fields, size, length = head
-    return Record(fields, text[size : -len(CLOSING)]) if size + length + len(CLOSING) == len(text) else None
+    return (fields, text[size : -len(CLOSING)]) if size + length + len(CLOSING) == len(text) else None
+
+
+class NotUsual(Exception):
+    """A record isn't of the usual form, or isn't whole."""
+
+
+class Block(NamedTuple):
+    """A record whose block is read in pieces. They raise NotUsual at its end if it isn't a record of the usual form."""
+
+    offset: int
+    fields: Fields
+    length: int  # of the block, in bytes
+    pieces: Iterator[bytes]
+
+
+def _checked(length: int, pieces: Iterator[bytes]) -> Iterator[bytes]:
+    """Yields a block of this length. Raises NotUsual unless the pieces have it, and then the closing alone."""
+    left, closing = length, b""
+    for piece in pieces:
+        if left:
+            yield piece[:left]
+        closing += piece[left:]
+        left -= min(left, len(piece))
+        if len(closing) > len(CLOSING):
+            break
+    if left or closing != CLOSING:
+        raise NotUsual
 
 
 class ArchiveFile:
@@ -103,6 +141,7 @@ class ArchiveFile:
         self._number = os.open(path, os.O_RDONLY | os.O_CLOEXEC)
         self.size = os.fstat(self._number).st_size
         self.end = 0
+        self._next = 0  # the offset behind a record that was read in pieces
         self._start = 0  # the offset of the bytes that are held
         self._held = b""
 
@@ -129,43 +168,106 @@ class ArchiveFile:
         found = self._member(offset, most)
         return found[0] if found and length in (None, found[1]) else None
 
-    def plain_records(self) -> Iterator[Record]:
-        """Yields the records of a plain archive, up to the first one that isn't of the usual form."""
-        while found := self._plain_record(self.end):
-            record, length = found
-            self.end += length
-            yield record
+    def records(self, is_packed: bool) -> Iterator[Record]:
+        """Yields the records of an archive, up to the first one that isn't of the usual form.
 
-    def packed_records(self) -> Iterator[Record]:
-        """Yields the records of a compressed archive, up to the first one that isn't of the usual form.
-
-        Members without a text are passed over.
+        Members of a compressed archive without a text are passed over.
         """
-        while found := self._member(self.end, MOST):
-            text, length = found
-            record = usual_record(text)
-            if record is None and text:
-                return
+        while found := self._parts(is_packed, MOST):
+            parts, length = found
+            start = self.end
             self.end += length
-            if record is not None:
-                yield record
+            if parts is not None:
+                yield Record(*parts, start, length)
 
-    def _plain_record(self, offset: int) -> Optional[tuple[Record, int]]:
-        """Returns the record that begins at an offset, and its length."""
+    def blocks(self, is_packed: bool) -> Iterator[Block]:
+        """Yields the same records to be read in pieces, each to its end before the next one, with little memory.
+
+        Raises NotUsual at the first record that isn't of the usual form, or in its pieces. `end` is its offset then.
+        """
+        while self.end < self.size:
+            if found := self._parts(is_packed, _MOST_HELD):
+                parts, length = found
+                if parts is not None:
+                    yield Block(self.end, parts[0], len(parts[1]), iter(parts[1:]))
+                self.end += length
+            else:
+                yield self._long_block(self._pieces_of_member() if is_packed else self._pieces_of_file())
+                self.end = self._next
+
+    def _parts(self, is_packed: bool, most: int) -> Optional[tuple[Optional[tuple[Fields, bytes]], int]]:
+        """Returns the fields and the block of the next record, and its length, if it is usual and has at most `most` bytes.
+
+        A member without a text has neither.
+        """
+        if not is_packed:
+            return self._plain_parts(self.end, most)
+        found = self._member(self.end, most)
+        if found is None:
+            return None
+        parts = _usual_parts(found[0])
+        return (parts, found[1]) if parts or not found[0] else None
+
+    def _plain_parts(self, offset: int, most: int) -> Optional[tuple[tuple[Fields, bytes], int]]:
+        head = self._plain_head(offset)
+        if head is None:
+            return None
+        fields, start, length = head
+        size = start + length + len(CLOSING)
+        if size > most or offset + size > self.size:
+            return None
+        at = self._look(offset, size)
+        text = self._held[at : at + size]
+        return ((fields, text[start : -len(CLOSING)]), size) if text.endswith(CLOSING) else None
+
+    def _plain_head(self, offset: int) -> Optional[_Head]:
         at = self._look(offset, 1)
         head = usual_head(self._held, at)
         if head is None and at:  # it may end in what isn't held yet
             at = self._look(offset, _AHEAD)
             head = usual_head(self._held, at)
+        return head
+
+    def _long_block(self, pieces: Iterator[bytes]) -> Block:
+        """Returns the record of these pieces. Raises NotUsual if its head isn't usual."""
+        text = b""
+        while len(text) < _MOST_HEAD and (piece := next(pieces, b"")):
+            text += piece
+        head = usual_head(text)
         if head is None:
-            return None
+            raise NotUsual
         fields, start, length = head
-        size = start + length + len(CLOSING)
-        if size > MOST or offset + size > self.size:
-            return None
-        at = self._look(offset, size)
-        text = self._held[at : at + size]
-        return (Record(fields, text[start : -len(CLOSING)]), size) if text.endswith(CLOSING) else None
+        return Block(self.end, fields, length, _checked(length, itertools.chain((text[start:],), pieces)))
+
+    def _pieces_of_file(self) -> Iterator[bytes]:
+        """Yields the next record of a plain archive. Sets `_next` at its end."""
+        head = self._plain_head(self.end)
+        self._next = self.end
+        left = head[1] + head[2] + len(CLOSING) if head else 0
+        while left and (piece := os.pread(self._number, min(left, _AHEAD), self._next)):
+            self._next += len(piece)
+            left -= len(piece)
+            yield piece
+
+    def _pieces_of_member(self) -> Iterator[bytes]:
+        """Yields the text of the next member. Sets `_next` at its end. Raises NotUsual if it isn't a good one."""
+        unpacker, packed = zlib.decompressobj(_GZIP), b""
+        self._next = self.end
+        while not unpacker.eof:
+            if not packed:
+                at = self._look(self._next, 1)
+                packed = self._held[at : at + _PACKED]
+                self._next += len(packed)
+            if not packed:
+                raise NotUsual
+            try:
+                piece = unpacker.decompress(packed, _AHEAD)
+            except zlib.error:
+                raise NotUsual from None
+            packed = unpacker.unconsumed_tail
+            if piece:
+                yield piece
+        self._next -= len(unpacker.unused_data)
 
     def _member(self, offset: int, most: int) -> Optional[tuple[bytes, int]]:
         """Returns the text and the length of a good member whose text has at most `most` bytes."""

@@ -1,6 +1,6 @@
 """Compares the digests of blocks and of payloads with the records of archives, plain and compressed.
 
-usage: warcdx-verify [--jobs N] [--warcdx PROGRAM] FILE..
+usage: warcdx-verify [--quiet] [--resume NOTES] [--jobs N] [--warcdx PROGRAM] FILE..
 
 FILE is an archive in WARC, plain or compressed with a member of gzip for each record. warcdx-verify
 compares the digests of each head: WARC-Block-Digest with the block, and WARC-Payload-Digest with the
@@ -16,7 +16,8 @@ elsewhere  the payload of a revisit or of a segment isn't in the record
 empty      a revisit has the digest of an empty block, as GNU Wget writes
 
 A damaged archive has `fault OFFSET CAUSE` as its last line. If there are several archives, a line
-`NAME:` precedes the lines of each.
+`NAME:` precedes the lines of each. With --quiet, only records that differ and faults are printed,
+each as `NAME: ` and its line.
 
 The exit status is 0 if each archive is whole, none of its digests differs, and one at least is the
 same; 1 if not; 2 after a usage error; or 3 if a file can't be opened, or reading, writing, memory or
@@ -28,18 +29,21 @@ import functools
 import os
 import re
 import shutil
+from collections import Counter
 from collections.abc import Iterator, Sequence
-from typing import BinaryIO, Optional
+from typing import BinaryIO, NamedTuple, Optional
 
 from . import __version__
 from .archive import Archive, open_archive
 from .command import FAILED, Parser, printable, report, run
 from .errors import Error, Fault
 from .faults import CannotFlush, CannotOpen, Input, Memory, Read, Write
+from .progress import Lines, Silent, bar_on_terminal
 from .record_digests import Verdict
+from .resuming import CannotResume, Notes
 from .temporary import temporary_folder
 from .verifying import check_archive
-from .workers import failure, run_in_order
+from .workers import failure, run_one_by_one, run_side_by_side
 
 NAME = "warcdx-verify"
 FAULTY = 1  # the exit status if an archive is at fault, a digest differs, or no digest is compared
@@ -51,6 +55,10 @@ _JOBS = re.compile("[0-9]{1,4}")
 def read_arguments(arguments: Optional[Sequence[str]]) -> argparse.Namespace:
     parser = Parser(NAME, __doc__)
     parser.add_argument("--version", action="version", version=f"{NAME} {__version__}")
+    help_quiet = "print only records that differ and faults, and a summary if there are any"
+    parser.add_argument("--quiet", action="store_true", help=help_quiet)
+    help_resume = "note which archives were good in this file, and pass over those that it names"
+    parser.add_argument("--resume", metavar="NOTES", help=help_resume)
     help_jobs = "how many archives to check at a time (%(default)s)"
     parser.add_argument("--jobs", type=_jobs_of, default=1, metavar="N", help=help_jobs)
     help_program = "the program (%(default)s); for compressed archives warcdx-gz beside it, or of the PATH"
@@ -65,14 +73,27 @@ def _jobs_of(text: str) -> int:
     return int(text)
 
 
-def check(file: str, program: str, has_heading: bool, output: BinaryIO) -> int:
+class Style(NamedTuple):
+    """How the records of an archive are printed: in all lines below a heading, or faults only, each with a name before it."""
+
+    heading: bytes
+    name: bytes
+    is_quiet: bool
+
+    @classmethod
+    def of(cls, file: str, is_quiet: bool, is_alone: bool) -> "Style":
+        if is_quiet:
+            return cls(b"", os.fsencode(f"{printable(file)}: "), True)
+        return cls(b"" if is_alone else os.fsencode(f"{file}:\n"), b"", False)
+
+
+def check(file: str, program: str, style: Style, output: BinaryIO) -> int:
     """Prints the records of an archive, and returns the exit status. Raises an Error if the program fails."""
     try:
         with read_again(file) as path:
             archive = open_archive(path, program=program)
-            if has_heading:
-                output.write(os.fsencode(f"{file}:\n"))
-            return print_archive(file, archive, output)
+            output.write(style.heading)
+            return print_archive(file, archive, style, output)
     except Fault as error:
         report(NAME, _line_of(file, error))
         return _status_of(error)
@@ -96,15 +117,15 @@ def read_again(file: str) -> Iterator[str]:
             yield os.fspath(path)
 
 
-def print_archive(file: str, archive: Archive, output: BinaryIO) -> int:
+def print_archive(file: str, archive: Archive, style: Style, output: BinaryIO) -> int:
     """Prints the records of an archive, and the fault of a damaged one. Raises a fault that has no offset."""
     status, found = 0, set[Verdict]()
     try:
-        print_records(archive, output, found)
+        print_records(archive, style, output, found)
     except Fault as error:
         if error.offset is None:
             raise
-        output.write(b"fault %d %s\n" % (error.offset, error.name.encode()))
+        output.write(b"%bfault %d %b\n" % (style.name, error.offset, error.name.encode()))
         status = _status_of(error)
     if not any(verdict.is_compared for verdict in found):
         report(NAME, f"{printable(file)}: no digest was compared")
@@ -112,12 +133,15 @@ def print_archive(file: str, archive: Archive, output: BinaryIO) -> int:
     return max(status, FAULTY) if Verdict.DIFFERS in found else status
 
 
-def print_records(archive: Archive, output: BinaryIO, found: set[Verdict]) -> None:
+def print_records(archive: Archive, style: Style, output: BinaryIO, found: set[Verdict]) -> None:
     """Prints the records of an archive, and adds their verdicts to those that were found."""
     with contextlib.closing(check_archive(archive)) as records:
         for record in records:
-            found |= {record.block, record.payload}
-            output.write(f"{record.offset} {record.block.value} {record.payload.value}\n".encode())
+            verdicts = {record.block, record.payload}
+            found |= verdicts
+            if Verdict.DIFFERS in verdicts or not style.is_quiet:
+                line = f"{record.offset} {record.block.value} {record.payload.value}\n"
+                output.write(style.name + line.encode())
 
 
 def _status_of(error: Fault) -> int:
@@ -130,16 +154,115 @@ def _line_of(file: str, error: Fault) -> str:
     return f"{printable(file)}: {'cannot open' if isinstance(error, CannotOpen) else error.name}"
 
 
+class Run:
+    """The archives that are to be read, and what was found of them. Their numbers are those of the works."""
+
+    def __init__(self, given: argparse.Namespace) -> None:
+        """Reads the notes of earlier runs. Raises CannotResume or OSError."""
+        self._given = given
+        self._notes = Notes(given.resume) if given.resume is not None else None
+        self._files = [each for each in given.files if self._notes is None or not self._notes.has(each)]
+        self._sizes = [_size_of(each) for each in self._files]
+        self._statuses = Counter[int]()
+        self._progress = progress_of(given, len(self._files))
+        self._lost = ""  # why the notes aren't in their file
+
+    def check_all(self, output: BinaryIO) -> int:
+        """Checks each archive that isn't known to be good, and returns the exit status."""
+        given, is_alone = self._given, len(self._given.files) == 1
+        styles = [Style.of(file, given.quiet, is_alone) for file in self._files]
+        works = [functools.partial(check, file, given.warcdx, style) for file, style in zip(self._files, styles)]
+        self._progress.begin(len(works), sum(self._sizes))
+        try:
+            if given.jobs > 1 and len(works) > 1 or type(self._progress) is not Silent:
+                status = run_side_by_side(NAME, works, given.jobs, output, self, not given.quiet)
+            else:
+                status = run_one_by_one(works, output, self)
+        except Error as error:
+            status = failure(NAME, error)
+        finally:
+            self._save()
+            self._progress.end()
+        if self._lost:
+            status = FAILED
+        if line := self._summary(status):
+            report(NAME, line)
+        return status
+
+    def begin(self, number: int) -> None:
+        if self._notes is not None:
+            self._notes.begin(number, self._files[number])
+
+    def clear(self) -> None:
+        self._progress.clear()
+
+    def end(self, number: int, status: int) -> None:
+        self._statuses[status] += 1
+        if self._notes is not None:
+            self._notes.end(number, self._files[number], not status)
+            if self._notes.is_due:
+                self._save()
+        self._progress.advance(self._sizes[number])
+
+    def _save(self) -> None:
+        """Saves the notes, if there are any. If that fails, it is said once, and tried again later."""
+        lost = ""
+        try:
+            if self._notes is not None:
+                self._notes.save()
+        except CannotResume as error:
+            lost = str(error)
+        except OSError as error:
+            lost = _reason_without_notes(self._given.resume, error)
+        if lost and not self._lost:
+            self._progress.clear()
+            report(NAME, lost)
+        self._lost = lost
+
+    def _summary(self, status: int) -> str:
+        """Returns what is to be said of all archives, or an empty text."""
+        archives, known = len(self._given.files), len(self._given.files) - len(self._files)
+        others = len(self._files) - self._statuses[0] - self._statuses[FAULTY]
+        if not (status if self._given.quiet else known):
+            return ""
+        counts = {"at fault": self._statuses[FAULTY], "not read": others, "known to be good": known}
+        found = ", ".join(f"{count:,} {name}" for name, count in counts.items() if count)
+        return f"{archives:,} archive{'s' * (archives != 1)}: {found}" if found else ""
+
+
+def progress_of(given: argparse.Namespace, archives: int) -> Silent:
+    """Returns what shows on a terminal how far a run is, if it reads several archives.
+
+    That is nothing if the lines of records show it, or are written as the records are read, as for `head`.
+    """
+    is_shown = given.quiet or given.jobs > 1 and not os.isatty(1)
+    if archives < 2 or not is_shown or not os.isatty(2):
+        return Silent()
+    return bar_on_terminal() or Lines(NAME)
+
+
+def _size_of(file: str) -> int:
+    try:
+        return os.stat(file).st_size
+    except (OSError, ValueError):
+        return 0
+
+
+def _reason_without_notes(file: str, error: OSError) -> str:
+    """Returns why notes can't be read or written. The error may name a temporary file."""
+    return f"{printable(file)}: {error.strerror}"
+
+
 def work(arguments: Optional[Sequence[str]], output: BinaryIO) -> int:
     given = read_arguments(arguments)
-    has_heading = len(given.files) > 1
-    works = [functools.partial(check, file, given.warcdx, has_heading) for file in given.files]
-    if has_heading and given.jobs > 1:
-        return run_in_order(NAME, works, given.jobs, output)
     try:
-        return max(each(output) for each in works)
-    except Error as error:
+        archives = Run(given)
+    except CannotResume as error:
         return failure(NAME, error)
+    except OSError as error:
+        report(NAME, _reason_without_notes(given.resume, error))
+        return FAILED
+    return archives.check_all(output)
 
 
 def main(arguments: Optional[Sequence[str]] = None) -> int:

@@ -1,14 +1,16 @@
 """Compares the digests of blocks and of payloads with an archive of either form."""
 import itertools
+import os
 from collections.abc import Generator, Iterator
 from typing import IO, NamedTuple
 
 from .archive import Archive, Listed
 from .codings import Decoder, Unreadable, decoded
-from .errors import fault
 from .faults import CannotOpen, CutMember, Read, ShortBlock, ShortHead
-from .record_digests import RecordCheck, Verdict, Verdicts
-from .usual_records import MAGIC
+from .record import Head
+from .record_digests import BlockCheck, RecordCheck, Verdict, Verdicts
+from .reported import fault
+from .usual_records import MAGIC, NotUsual
 
 _PIECE = 1 << 16  # bytes that are read at once
 
@@ -24,15 +26,35 @@ class Checked(NamedTuple):
 def check_archive(archive: Archive) -> Generator[Checked, None, None]:
     """Yields each record of an archive, which isn't a pipe. After the last one raises the fault of a damaged archive.
 
-    `list` of the program finds the records, and has read a member to its end. They are then read for their digests.
+    Records of the usual form are read by this process, and once. From the first other one on, `list` of the program
+    finds the records, and has read a member to its end. They are then read for their digests.
     """
+    file = None
+    try:
+        with archive.opened() as (file, is_packed):
+            for block in file.blocks(is_packed):
+                check = BlockCheck(Head(block.fields), block.length)
+                for piece in block.pieces:
+                    check.add(piece)
+                yield Checked(block.offset, *check.verdicts())
+            return
+    except (NotUsual, OSError, ValueError):
+        pass  # the program says what is there, or why the file can't be read
+    yield from check_listed(archive, 0 if file is None else file.end)
+    if file is not None and (size := os.stat(archive.path).st_size) < file.size:  # another process has cut it
+        raise fault("ShortHead", archive.path, size)
+
+
+def check_listed(archive: Archive, start: int = 0) -> Generator[Checked, None, None]:
+    """Yields the records from an offset on, all of which the program finds."""
     try:
         file = open(archive.path, "rb", buffering=_PIECE)
     except OSError as error:
         raise CannotOpen("CannotOpen", archive.path) from error
     with file:
         for listed in archive.list():
-            yield Checked(listed.offset, *_check_listed(archive.path, file, listed))
+            if listed.offset >= start:
+                yield Checked(listed.offset, *_check_listed(archive.path, file, listed))
 
 
 def _check_listed(path: str, file: IO[bytes], listed: Listed) -> Verdicts:

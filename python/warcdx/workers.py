@@ -5,7 +5,7 @@ import pathlib
 import shutil
 import signal
 from collections.abc import Callable, Sequence
-from typing import IO, BinaryIO, NoReturn
+from typing import IO, BinaryIO, NoReturn, Optional, Protocol
 
 from .command import FAILED, printable, report, run
 from .ending import blocked
@@ -14,18 +14,47 @@ from .streams import write_error
 from .temporary import temporary_folder
 
 Work = Callable[[BinaryIO], int]
+
+
+class Watch(Protocol):
+    """Is told of each work, by its number."""
+
+    def begin(self, number: int) -> None:
+        """A work begins."""
+
+    def clear(self) -> None:
+        """Output and errors of a work will be written."""
+
+    def end(self, number: int, status: int) -> None:
+        """A work has ended with this exit status, and its output was written."""
+
+
 BROKEN = 64  # is added to the exit status of a process whose work has failed by an exception
 _MOST_SAID = 1 << 16  # bytes that a pipe holds
 
 
-def run_in_order(name: str, works: Sequence[Work], most: int, output: BinaryIO) -> int:
+def run_one_by_one(works: Sequence[Work], output: BinaryIO, watch: Watch) -> int:
+    """Runs each work of a command in this process. Returns the largest exit status."""
+    status = 0
+    for number, work in enumerate(works):
+        watch.begin(number)
+        ended = work(output)
+        output.flush()
+        watch.end(number, ended)
+        status = max(status, ended)
+    return status
+
+
+def run_side_by_side(
+    name: str, works: Sequence[Work], most: int, output: BinaryIO, watch: Watch, is_in_order: bool
+) -> int:
     """Runs each work of a command in a process of its own, at most `most` at a time. Returns the largest exit status.
 
-    Writes their outputs in the order of the works. Until then they are in temporary files. A work that fails by
-    an exception is the last, and is reported.
+    Writes their outputs in the order of the works, or as they end. Until then they are in temporary files. A work that
+    fails by an exception is the last, and is reported.
     """
-    with temporary_folder() as folder, contextlib.closing(_Workers(name, works, folder)) as workers:
-        return workers.run_all(most, output)
+    with temporary_folder() as folder, contextlib.closing(_Workers(name, works, folder, watch)) as workers:
+        return workers.run_all(most, output, is_in_order)
 
 
 def failure(name: str, error: Error) -> int:
@@ -37,11 +66,12 @@ def failure(name: str, error: Error) -> int:
 class _Workers:
     """The processes: those that run, and the exit statuses of those that have ended, by the numbers of their works."""
 
-    def __init__(self, name: str, works: Sequence[Work], folder: pathlib.Path) -> None:
+    def __init__(self, name: str, works: Sequence[Work], folder: pathlib.Path, watch: Watch) -> None:
         self._statuses: dict[int, int] = {}
         self._name = name
         self._works = works
         self._folder = folder
+        self._watch = watch
         self._started = 0
         self._running: dict[int, int] = {}  # the numbers of the works, by process IDs
         self._errors: dict[int, IO[bytes]] = {}  # pipes from the standard errors of those that run
@@ -51,28 +81,33 @@ class _Workers:
         """Returns the file with the output of a work."""
         return self._folder / str(number)
 
-    def run_all(self, most: int, output: BinaryIO) -> int:
+    def run_all(self, most: int, output: BinaryIO, is_in_order: bool) -> int:
         status = 0
-        for number in range(len(self._works)):
-            output.flush()  # so that no process has a copy of what isn't written yet
-            ended = self._status_of(number, most)
+        for turn in range(len(self._works)):
+            number = self._next(turn if is_in_order else None, most)
+            ended = self._statuses.pop(number)
             status = max(status, ended % BROKEN)
+            if self._said[number] or self._part(number).stat().st_size:
+                self._watch.clear()
             self._move_output(number, output)
+            output.flush()  # so that no process has a copy of what isn't written yet
             self._report(number)
             if ended >= BROKEN:
                 break
+            self._watch.end(number, ended)
         return status
 
-    def _status_of(self, number: int, most: int) -> int:
-        """Runs processes, at most `most` at a time, until a work has ended. Returns its exit status."""
-        while number not in self._statuses:
+    def _next(self, number: Optional[int], most: int) -> int:
+        """Runs processes, at most `most` at a time, until this work has ended, or any. Returns its number."""
+        while not self._statuses if number is None else number not in self._statuses:
             self._start_to(most)
             self._wait()
-        return self._statuses[number]
+        return next(iter(self._statuses)) if number is None else number
 
     def _start_to(self, most: int) -> None:
         """Starts processes until `most` run, or each work has one."""
         while len(self._running) < most and self._started < len(self._works):
+            self._watch.begin(self._started)
             with blocked(), open(self._part(self._started), "wb") as part:
                 self._start(self._started, part.fileno())
                 self._started += 1

@@ -104,7 +104,9 @@ END
 cd "$work/both"
 expect_offers << END
 warcdx-verify |a.warc b.warc.gz
-warcdx-verify --|--help --jobs --version --warcdx
+warcdx-verify --|--help --jobs --quiet --resume --version --warcdx
+warcdx-verify --q|--quiet
+warcdx-verify --quiet |a.warc b.warc.gz
 warcdx-verify --j|--jobs
 warcdx-verify --jobs |
 warcdx-verify --jobs 2 |a.warc b.warc.gz

@@ -1,6 +1,7 @@
 """The commands of this repository, each with an input, and runs of them that fault_matrix.py spoils."""
 import gzip
 import hashlib
+import json
 import os
 import pathlib
 import re
@@ -18,6 +19,7 @@ from script_signals import is_caught, wait_until
 
 FAULT_LINE = re.compile(rb"fault [0-9]+ [A-Za-z]+\n")
 TRACES = (b"Traceback", b"Exception ignored", b"Fatal Python error", b"Segmentation fault")
+NOTES = "notes"
 INDEX = "all.cdxj"
 MADE = {INDEX, f"{INDEX}.parts", f"{INDEX}.summary.json"}  # by warcdx-update
 FAILED = 3
@@ -54,6 +56,8 @@ def commands_of(program: pathlib.Path) -> Iterator[Command]:
         ("warcdx-verify", 1, "cut.warc"),
         ("warcdx-verify", 0, "pipe"),
         ("warcdx-verify", 1, "--jobs", "2", "digests.warc.gz", "cut.warc.gz"),
+        ("warcdx-verify", 1, "--quiet", "--resume", NOTES, "digests.warc.gz", "cut.warc", "digests.warc"),
+        ("warcdx-verify", 1, "--quiet", "--jobs", "2", "--resume", NOTES, "cut.warc", "digests.warc"),
         ("warcdx-cdx", 0, "to", "a.cdxj"),
         ("warcdx-cdx", 1, "to", "bad.cdxj"),
         ("warcdx-cdx", 1, "from", "bad.cdx", "a.cdx"),
@@ -202,6 +206,34 @@ class UpdateTrial(Trial):
         self.expect_unchanged()
 
 
+class NotesTrial(Trial):
+    """Each run of warcdx-verify begins without notes, and leaves none or some of good archives."""
+
+    def __init__(self, program: pathlib.Path, command: Command, folder: pathlib.Path, cache: pathlib.Path) -> None:
+        super().__init__(program, command, folder, cache)
+        self.usual()
+        self.prepare()
+
+    def prepare(self) -> None:
+        (self.folder / NOTES).unlink(missing_ok=True)
+
+    def expect_unchanged(self) -> None:
+        path = self.folder / NOTES
+        lines = path.read_bytes().splitlines() if path.exists() else []
+        noted = {pathlib.Path(json.loads(line)[0]).name for line in lines[1:]}
+        expect(not lines or json.loads(lines[0])[1] == len(lines) - 1, "notes that aren't whole", lines)
+        expect(noted <= {"digests.warc.gz", "digests.warc"}, "notes of other archives", noted)
+        self.prepare()
+        super().expect_unchanged()
+
+    def judge(self, outcome: Outcome, is_harmless: bool, can_start: bool) -> None:
+        super().judge(outcome, is_harmless, can_start)
+        if outcome.ended == self.usual():
+            good = {word for word in self.script.words if word in ("digests.warc.gz", "digests.warc")}
+            lines = (self.folder / NOTES).read_bytes().splitlines()
+            expect({pathlib.Path(json.loads(line)[0]).name for line in lines[1:]} == good, "notes are missing", lines)
+
+
 class GatewayTrial(Trial):
     """Each run is ended by TERM once it serves, if it does."""
 
@@ -220,7 +252,8 @@ class GatewayTrial(Trial):
 
 def trial_of(program: pathlib.Path, command: Command, folder: pathlib.Path, cache: pathlib.Path) -> Trial:
     kinds = {"warcdx-update": UpdateTrial, "warcdx-gateway": GatewayTrial}
-    return kinds.get(command.name, Trial)(program, command, folder, cache)
+    kind = NotesTrial if NOTES in command.script.words else kinds.get(command.name, Trial)
+    return kind(program, command, folder, cache)
 
 
 def digests_of(folder: pathlib.Path) -> dict[str, str]:

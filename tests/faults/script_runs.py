@@ -107,6 +107,8 @@ def inputs() -> Mapping[str, bytes]:
     numbers = range(10_000, 14_000)
     digests = (hashlib.sha256(b"%d" % number).hexdigest().encode() for number in numbers)
     with_digests = [VERIFIED % (digest, b"%d" % number) for digest, number in zip(digests, numbers)]
+    # The package reads records with a whole date by itself, and asks the program from the first other one on.
+    with_digests[2000] = with_digests[2000].replace(b"T17:20:24Z", b"")
     response = b"HTTP/1.1 200 OK\r\n\r\n" + BODY
     page = PAGE % (len(response), response)
     return {

@@ -6,7 +6,8 @@ usage: package_records.py [--cases N | --seconds N | --case NUMBER] [--seed N] [
 A case is an archive that is made at random, plain or compressed, and most often changed: in a few bytes, lines, numbers or parts, in its members,
 by a cut or by another archive behind it. The package has to give the same records when it iterates over the archive as the program lists and
 writes, and to end with the same fault. `record` and `stream` have to do the same at the offsets of records, and at others, with the right length,
-with another and with none. A fault is the same if its class, its file and its offset are.
+with another and with none. A fault is the same if its class, its file and its offset are. The places of records are those that the program lists. The
+verdicts on their digests are the same whichever way finds the records, and in pieces of any size.
 
 PROGRAM is warcdx, in whose folder warcdx-gz may be, too. The output and the exit status are those of against_plain.py.
 """
@@ -26,7 +27,8 @@ from random_changes import mutated
 from random_members import damaged, member
 from trial import Trial
 
-from warcdx import Archive, CompressedArchive, Error, Fault, Record, open_archive
+from warcdx import Archive, CompressedArchive, Error, Fault, Record, open_archive, usual_records
+from warcdx.verifying import Checked, check_archive, check_listed
 
 Place = tuple[int, Optional[int]]  # an offset and a length
 Found = Union[Record, bytes, str]
@@ -122,6 +124,25 @@ def all_of(archive: Archive) -> list[Found]:
     return found
 
 
+def verdicts(records: Iterator[Checked]) -> list[Union[Checked, str]]:
+    """The verdicts on an archive, and the fault after them, if there is one."""
+    found: list[Union[Checked, str]] = []
+    try:
+        found.extend(records)
+    except Error as error:
+        found.append(named(error))
+    return found
+
+
+def expect_places(trial: Trial, records: list[Found], archive: Archive) -> None:
+    """The records know the places that the program lists."""
+    listed_records = archive.list()
+    for each in records:
+        if isinstance(each, Record):
+            listed = next(listed_records)
+            trial.check(each.offset == listed.offset and each.length in (None, listed.length), f"{each.offset}, {each.length}: {listed}")
+
+
 def streamed(archive: Archive, offset: int, length: Optional[int]) -> bytes:
     with archive.stream(offset, length=length) as stream:
         return b"".join(stream.whole())
@@ -157,6 +178,11 @@ def expect_same(trial: Trial, here: Archive, asked: Archive, size: int) -> None:
     found, wanted = all_of(here), all_of(asked)
     trial.tally["places at which an iteration asks the program"] += len(asks)
     trial.check(found == wanted, f"{here.path} has {found!s:.1500}\nand by the program {wanted!s:.1500}")
+    expect_places(trial, found, asked)
+    usual_records._MOST_HELD, usual_records._AHEAD = trial.choice.choice(((1 << 20, 1 << 16), (0, 1 << 16), (100, 509), (1000, 50)))
+    checked, wanted_verdicts = verdicts(check_archive(here)), verdicts(check_listed(asked))
+    trial.check(checked == wanted_verdicts, f"{here.path} has the verdicts {checked!s:.1500}\nand by the program {wanted_verdicts!s:.1500}")
+    trial.tally["verdicts on digests"] += sum(isinstance(each, Checked) and "absent" not in (each.block.value, each.payload.value) for each in checked)
     trial.tally["records"] += sum(isinstance(each, Record) for each in found)
     trial.tally[f"archive: {str(found[-1]).split()[0] if found and isinstance(found[-1], str) else 'whole'}"] += 1
     for offset, length in some_places(trial.choice, asked, size):

@@ -1,0 +1,313 @@
+"""Runs of warcdx-verify over many archives: --quiet, --resume, and what a terminal shows."""
+import gzip
+import importlib.util
+import json
+import os
+import pty
+import resource
+import signal
+import subprocess
+import sys
+import threading
+import time
+import unittest
+from typing import Any
+from unittest import mock
+
+from warcdx import resuming
+from warcdx.resuming import CannotResume, Notes
+
+from .support import PROGRAM, WAIT, Case, children_of
+from .test_verify import COMMAND, OF_ABC, record
+
+GOOD, BAD = record(b"abc", OF_ABC[5]), record(b"abd", OF_ABC[5])
+WARCDX = os.path.abspath(PROGRAM)
+FORM = "warcdx-verify --resume 1"
+
+
+class Runs(Case):
+    def put_bytes(self, name: str, text: bytes) -> str:
+        (self.folder / name).write_bytes(text)
+        return name
+
+    def command(self, *arguments: str) -> tuple[str, ...]:
+        return (sys.executable, str(COMMAND), "--warcdx", WARCDX, *arguments)
+
+    def run_command(self, *arguments: str, **more: Any) -> tuple[list[str], list[str], int]:
+        """Returns the lines of the output, those of standard error, and the exit status."""
+        done = subprocess.run(self.command(*arguments), cwd=self.folder, capture_output=True, text=True, timeout=WAIT, **more)
+        return done.stdout.splitlines(), done.stderr.splitlines(), done.returncode
+
+    def noted(self, name: str = "notes") -> list[str]:
+        """Returns the names of the archives that are noted."""
+        head, *lines = (self.folder / name).read_text().splitlines()
+        self.assertEqual([FORM, len(lines)], json.loads(head))
+        return [os.path.relpath(json.loads(line)[0], self.folder) for line in lines]
+
+
+class Quiet(Runs):
+    def test_nothing_is_said_of_what_is_good(self) -> None:
+        names = [self.put_bytes(f"{number}.warc", GOOD * 3) for number in range(3)]
+        names.append(self.put_bytes("3.warc.gz", gzip.compress(GOOD) * 3))
+        for words in (("--quiet",), ("--quiet", "--jobs", "3"), ("--quiet", "--resume", "notes")):
+            self.assertEqual(([], [], 0), self.run_command(*words, *names), words)
+
+    def test_each_fault_is_on_a_line_with_the_name_of_its_file(self) -> None:
+        member = gzip.compress(GOOD)
+        for name, text in (
+            ("good.warc", GOOD), ("bad.warc", GOOD + BAD + GOOD + BAD), ("cut.warc.gz", member + member[:-1]),
+            ("a\nb.warc", BAD), ("none.warc", record(b"abc")),
+        ):  # fmt: skip
+            self.put_bytes(name, text)
+        names = ("good.warc", "bad.warc", "cut.warc.gz", "a\nb.warc", "none.warc", "nosuch\n")
+        second = len(GOOD)
+        found = [
+            f"bad.warc: {second} differs absent", f"bad.warc: {second * 3} differs absent",
+            f"cut.warc.gz: fault {len(member)} CutMember", '"a\\nb.warc": 0 differs absent',
+        ]  # fmt: skip
+        said = [
+            "warcdx-verify: none.warc: no digest was compared", 'warcdx-verify: "nosuch\\n": cannot open',
+            "warcdx-verify: 6 archives: 4 at fault, 1 not read",
+        ]  # fmt: skip
+        self.assertEqual((found, said, 3), self.run_command("--quiet", *names))
+        lines, errors, status = self.run_command("--quiet", "--jobs", "4", *names)
+        self.assertEqual((sorted(found), sorted(said), 3), (sorted(lines), sorted(errors), status))
+        self.assertEqual(said[-1], errors[-1])
+        self.assertEqual((found[:2], ["warcdx-verify: 1 archive: 1 at fault"], 1), self.run_command("--quiet", "bad.warc"))
+
+    def test_a_fault_is_printed_while_other_archives_are_read(self) -> None:
+        os.mkfifo(self.folder / "pipe")  # which nobody writes
+        self.put_bytes("bad.warc", BAD)
+        with subprocess.Popen(self.command("--quiet", "--jobs", "2", "pipe", "bad.warc"), cwd=self.folder, stdout=subprocess.PIPE) as process:
+            assert process.stdout is not None
+            timer = threading.Timer(WAIT, process.terminate)
+            timer.start()
+            self.addCleanup(timer.cancel)
+            self.assertEqual(b"bad.warc: 0 differs absent\n", process.stdout.readline())
+            process.send_signal(signal.SIGTERM)
+            self.assertEqual((b"", -signal.SIGTERM), (process.stdout.read(), process.wait(timeout=WAIT)))
+
+    def test_a_process_that_is_killed_is_said(self) -> None:
+        killed = self.script(f'[ "$1" != --help ] || exec {WARCDX} "$@"; kill -9 $$')
+        folded = GOOD.replace(b"WARC-Type:", b"WARC-Type:\r\n")  # which only the program reads
+        names = [self.put_bytes(f"{number}.warc", folded) for number in range(4)]
+        for jobs in ("1", "2"):
+            found = self.run_command("--warcdx", killed, "--quiet", "--resume", "notes", "--jobs", jobs, *names)
+            said = ["warcdx-verify: warcdx has ended with signal 9", "warcdx-verify: 4 archives: 4 not read"]
+            self.assertEqual(([], said, 3), found)
+            self.assertEqual([], self.noted())
+
+    def on_terminal(self, *arguments: str) -> tuple[str, int]:
+        """Returns what a terminal shows, and the exit status."""
+        terminal, end = pty.openpty()
+        environment = {**os.environ, "PYTHONPATH": str(self.folder)}  # where a test may put another tqdm
+        process = subprocess.Popen(self.command(*arguments), cwd=self.folder, stdout=end, stderr=end, env=environment)
+        os.close(end)
+        shown = b""
+        try:
+            while piece := os.read(terminal, 1 << 16):
+                shown += piece
+        except OSError:  # so ends a terminal
+            os.close(terminal)
+        return shown.decode(), process.wait(timeout=WAIT)
+
+    @unittest.skipIf(importlib.util.find_spec("tqdm") is None, "the module tqdm is missing")
+    def test_a_terminal_shows_how_far_it_is(self) -> None:
+        names = [self.put_bytes(f"{number}.warc", GOOD) for number in range(2)]
+        names.append(self.put_bytes("bad.warc", BAD))
+        for jobs in ("1", "2"):
+            shown, status = self.on_terminal("--quiet", "--jobs", jobs, *names)
+            self.assertEqual(1, status)
+            self.assertIn("\rbad.warc: 0 differs absent\r\n", shown)  # the bar isn't before it
+            self.assertTrue(shown.endswith("\rwarcdx-verify: 3 archives: 1 at fault\r\n"), shown)
+            self.assertIn("3 archives:   0%", shown)
+
+    def test_a_terminal_shows_lines_without_tqdm(self) -> None:
+        self.put("raise ImportError", "tqdm.py")
+        names = [self.put_bytes("0.warc", GOOD), self.put_bytes("1.warc", GOOD)]
+        found = "warcdx-verify: 1 of 2 archives, 50 %\r\nwarcdx-verify: 2 of 2 archives, 100 %\r\n"
+        self.assertEqual((found, 0), self.on_terminal("--quiet", "--resume", "notes", *names))
+        self.assertEqual(("", 0), self.on_terminal("--quiet", "--resume", "notes", *names))
+
+    def test_a_terminal_that_shows_each_record_has_no_bar(self) -> None:
+        names = [self.put_bytes("0.warc", GOOD), self.put_bytes("1.warc", GOOD), self.put_bytes("bad.warc", BAD)]
+        self.assertEqual(("bad.warc: 0 differs absent\r\nwarcdx-verify: 1 archive: 1 at fault\r\n", 1), self.on_terminal("--quiet", names[2]))
+        shown, status = self.on_terminal("--jobs", "2", *names)
+        self.assertEqual("0.warc:\r\n0 same absent\r\n1.warc:\r\n0 same absent\r\nbad.warc:\r\n0 differs absent\r\n", shown)
+
+
+class Resume(Runs):
+    def test_good_archives_are_passed_over_until_they_change(self) -> None:
+        for name, text in (("a.warc", GOOD), ("b.warc", BAD), ("c.warc", record(b"abc")), ("d.warc.gz", gzip.compress(GOOD))):
+            self.put_bytes(name, text)
+        words = ("--resume", "notes", "a.warc", "b.warc", "c.warc", "d.warc.gz")
+        first = self.run_command(*words)
+        self.assertEqual((["a.warc", "d.warc.gz"], 1), (self.noted(), first[2]))
+        rest = ["b.warc:", "0 differs absent", "c.warc:", "0 absent absent"]
+        said = ["warcdx-verify: c.warc: no digest was compared", "warcdx-verify: 4 archives: 2 at fault, 2 known to be good"]
+        self.assertEqual((rest, said, 1), self.run_command(*words))
+        self.assertEqual((["0 same absent"], [], 0), self.run_command("a.warc"))
+        self.assertEqual(([], ["warcdx-verify: 1 archive: 1 known to be good"], 0), self.run_command("--resume", "notes", "a.warc"))
+        self.assertEqual(([], [], 0), self.run_command("--quiet", "--resume", "notes", "a.warc", "./d.warc.gz"))
+        times = os.stat(self.folder / "a.warc").st_mtime_ns
+        self.put_bytes("a.warc", GOOD[:-20] + b"X" * 16 + GOOD[-4:])
+        os.utime(self.folder / "a.warc", ns=(times, times + 1))
+        self.assertEqual(1, self.run_command(*words)[2])
+        self.assertEqual(["d.warc.gz"], self.noted())
+        self.put_bytes("a.warc", GOOD)
+        self.run_command("--jobs", "3", *words)
+        self.assertEqual(["a.warc", "d.warc.gz"], sorted(self.noted()))
+
+    def test_notes_of_other_archives_stay(self) -> None:
+        for name in ("a.warc", "b.warc"):
+            self.put_bytes(name, GOOD)
+            self.assertEqual(0, self.run_command("--resume", "notes", name)[2])
+        os.remove(self.folder / "a.warc")
+        self.assertEqual(0, self.run_command("--resume", "notes", "b.warc")[2])
+        self.assertEqual(["a.warc", "b.warc"], self.noted())
+
+    def test_a_worker_that_is_killed_is_said_and_the_others_are_noted(self) -> None:
+        os.mkfifo(self.folder / "pipe")  # which nobody writes
+        self.put_bytes("a.warc", GOOD)
+        command = self.command("--quiet", "--resume", "notes", "--jobs", "2", "a.warc", "pipe")
+        with subprocess.Popen(command, cwd=self.folder, stdout=subprocess.PIPE, stderr=subprocess.PIPE) as process:
+            end = time.monotonic() + WAIT
+            while len(children := children_of(process.pid)) != 1 or not (self.folder / "notes").exists():
+                self.assertLess(time.monotonic(), end)
+            time.sleep(1)
+            for child in children_of(process.pid):
+                os.kill(child, signal.SIGKILL)
+            found, said = process.communicate(timeout=WAIT)
+        self.assertEqual((b"", 3), (found, process.returncode), children)
+        lines = said.decode().splitlines()
+        self.assertEqual(["warcdx-verify: a process has ended with signal 9", "warcdx-verify: 2 archives: 1 not read"], lines)
+        self.assertEqual(["a.warc"], self.noted())
+
+    def test_archives_that_are_given_twice(self) -> None:
+        self.put_bytes("a.warc", GOOD)
+        for jobs in ("1", "3"):
+            self.assertEqual(([], [], 0), self.run_command("--quiet", "--resume", f"notes{jobs}", "--jobs", jobs, *["a.warc", "./a.warc"] * 3))
+            self.assertEqual(["a.warc"], self.noted(f"notes{jobs}"))
+
+    def test_a_run_that_is_broken_off_has_noted_what_it_has_read(self) -> None:
+        os.mkfifo(self.folder / "pipe")  # which nobody writes
+        self.put_bytes("a.warc", GOOD)
+        for words in (("a.warc", "pipe"), ("--jobs", "2", "pipe", "a.warc")):
+            process = subprocess.Popen(self.command("--quiet", "--resume", "notes", *words), cwd=self.folder)
+            end = time.monotonic() + WAIT
+            while not (self.folder / "notes").exists():
+                self.assertLess(time.monotonic(), end)
+                time.sleep(0.01)
+            time.sleep(1)
+            process.terminate()
+            self.assertEqual(-signal.SIGTERM, process.wait(timeout=WAIT))
+            self.assertEqual(["a.warc"], self.noted())
+            self.assertEqual({"a.warc", "notes", "pipe"}, set(os.listdir(self.folder)))
+            os.remove(self.folder / "notes")
+
+    def test_other_files_stay_as_they_are(self) -> None:
+        self.put_bytes("a.warc", GOOD)
+        head, note = json.dumps([FORM, 1]).encode() + b"\n", json.dumps(["/a.warc", 1, 2, 3]).encode() + b"\n"
+        self.put_bytes("b.warc", GOOD)
+        for text, reason in (
+            (GOOD, "isn't a file of --resume"), (b"", "isn't a file of --resume"), (b"x" * 200_000, "isn't a file of --resume"),
+            (b"[" * 60_000, "isn't a file of --resume"), (b"[1, 2]\n", "isn't a file of --resume"), (head[1:] + note, "isn't a file"),
+            (head, "is damaged"), (head + note[:-1], "is damaged"), (head + note[:-3], "is damaged"), (head + note * 2, "is damaged"),
+            (head + note + b"\n", "is damaged"), (head + note.replace(b"3", b"3.5"), "is damaged"), (head + b"[" * 60_000, "is damaged"),
+            (head + note.replace(b", 3", b""), "is damaged"), (head + note.replace(b'"/a.warc"', b"0"), "is damaged"),
+            (head + b"[[], 1, 2, 3]\n", "is damaged"), (head + b"\xff\n", "is damaged"),
+        ):  # fmt: skip
+            self.put_bytes("notes", text)
+            with self.assertRaisesRegex(CannotResume, reason):
+                Notes(str(self.folder / "notes"))
+            self.assertEqual(text, (self.folder / "notes").read_bytes())
+        found = self.run_command("--resume", "b.warc", "a.warc")
+        self.assertEqual(([], ["warcdx-verify: b.warc isn't a file of --resume, and stays as it is"], 3), found)
+        self.assertEqual({"a.warc", "b.warc", "notes"}, set(os.listdir(self.folder)))
+        self.assertEqual(GOOD, (self.folder / "b.warc").read_bytes())
+
+    def test_what_can_not_hold_notes_is_said_before_anything_is_read(self) -> None:
+        self.put_bytes("a.warc", GOOD)
+        os.mkfifo(self.folder / "pipe")
+        for name, said in (
+            (".", ". isn't a regular file, and isn't replaced"), ("pipe", "pipe isn't a regular file, and isn't replaced"),
+            ("nosuch/notes", "nosuch/notes: No such file or directory"), ("a.warc/notes", "a.warc/notes: Not a directory"),
+            ("/proc/notes\n", '"/proc/notes\\n": No such file or directory'), ("n" * 300, f"{'n' * 300}: File name too long"),
+            ("/dev/full", "/dev/full isn't a regular file, and isn't replaced"),
+        ):  # fmt: skip
+            self.assertEqual(([], [f"warcdx-verify: {said}"], 3), self.run_command("--resume", name, "a.warc"), name)
+        limit = {"preexec_fn": lambda: resource.setrlimit(resource.RLIMIT_FSIZE, (10, 10))}
+        self.assertEqual(([], ["warcdx-verify: notes: File too large"], 3), self.run_command("--quiet", "--resume", "notes", "a.warc", **limit))
+        self.assertEqual({"a.warc", "pipe"}, set(os.listdir(self.folder)))
+
+    def test_a_disk_that_gets_full_loses_notes_and_no_verdict(self) -> None:
+        names = [self.put_bytes(f"{number}.warc", GOOD) for number in range(5)] + [self.put_bytes("bad.warc", BAD)]
+        limit = {"preexec_fn": lambda: resource.setrlimit(resource.RLIMIT_FSIZE, (100, 100))}
+        found = self.run_command("--quiet", "--resume", "notes", *names[:-1], **limit)
+        self.assertEqual(([], ["warcdx-verify: notes: File too large"], 3), found)
+        for jobs in ("1", "2"):
+            found = self.run_command("--quiet", "--resume", "notes", "--jobs", jobs, *names, **limit)
+            said = ["warcdx-verify: notes: File too large", "warcdx-verify: 6 archives: 1 at fault"]
+            self.assertEqual((["bad.warc: 0 differs absent"], said, 3), found)
+            self.assertEqual([], self.noted())
+
+    def test_nothing_is_noted_of_an_archive_that_was_changed_while_it_was_read(self) -> None:
+        path = self.folder / "a.warc"
+        path.write_bytes(GOOD)
+        notes = Notes(str(self.folder / "notes"))
+        for change in (
+            lambda: path.write_bytes(GOOD * 2), lambda: os.utime(path, ns=(1, 1)), lambda: path.unlink(),
+            lambda: path.write_bytes(GOOD), lambda: (path.rename(self.folder / "b"), path.write_bytes(GOOD)),
+            lambda: (path.write_bytes(GOOD[:-1]), os.utime(path, ns=(1, 1)), path.write_bytes(GOOD), os.utime(path, ns=(1, 1))),
+        ):  # fmt: skip
+            time.sleep(0.01)  # so that the times differ
+            notes.begin(0, str(path))
+            change()
+            notes.end(0, str(path), True)
+            self.assertFalse(notes.has(str(path)))
+        os.utime(path, ns=(1, 1))
+        notes.begin(0, str(path))
+        path.write_bytes(BAD)
+        os.utime(path, ns=(1, 1))  # so that only the time of the inode differs
+        notes.end(0, str(path), True)
+        self.assertFalse(notes.has(str(path)))
+        notes.begin(0, str(path))
+        notes.end(0, str(path), True)
+        self.assertTrue(notes.has(str(path)))
+
+    def test_what_others_write_meanwhile_stays(self) -> None:
+        path = str(self.folder / "notes")
+        names = [str(self.folder / self.put_bytes(name, GOOD)) for name in ("a.warc", "b.warc")]
+        runs = [Notes(path), Notes(path)]
+        for notes, name in zip(runs, names):
+            notes.begin(0, name)
+            notes.end(0, name, True)
+            notes.save()
+        self.assertEqual(["a.warc", "b.warc"], sorted(self.noted()))
+        runs[1].begin(0, names[0])
+        runs[1].end(0, names[0], False)
+        runs[1].save()
+        self.assertEqual(["b.warc"], self.noted())
+        self.put_bytes("notes", b"mine")
+        with self.assertRaises(CannotResume):
+            runs[0].save()
+        self.assertEqual(b"mine", (self.folder / "notes").read_bytes())
+
+    def test_a_link_to_notes_stays_one(self) -> None:
+        os.symlink("notes", self.folder / "link")
+        self.put_bytes("a.warc", GOOD)
+        for _ in range(2):
+            self.assertEqual(0, self.run_command("--resume", "link", "a.warc")[2])
+            self.assertEqual(["a.warc"], self.noted())
+            self.assertTrue((self.folder / "link").is_symlink())
+
+    def test_the_file_is_replaced_after_a_pause(self) -> None:
+        with mock.patch.object(resuming, "_PAUSE", 0.05):
+            notes = Notes(str(self.folder / "notes"))
+            self.assertFalse(notes.is_due)
+            time.sleep(2)
+            self.assertTrue(notes.is_due)
+
+
+if __name__ == "__main__":
+    unittest.main()

@@ -1,0 +1,90 @@
+"""Files that are made under names of their own, and are on the disk before anything stands on them."""
+import contextlib
+import errno
+import os
+import shutil
+import stat
+from collections.abc import Iterable, Iterator
+from typing import IO, Optional, Union
+
+Path = Union[str, "os.PathLike[str]"]
+_NEW = os.O_WRONLY | os.O_CREAT | os.O_EXCL | os.O_NOFOLLOW | os.O_CLOEXEC
+
+
+def is_regular(path: Path, size: Optional[int] = None) -> bool:
+    """Returns whether there is a regular file, of this many bytes if a size is given. A link isn't one."""
+    try:
+        found = os.lstat(path)
+    except OSError:
+        return False
+    return stat.S_ISREG(found.st_mode) and size in (None, found.st_size)
+
+
+def new_file(path: Path) -> IO[bytes]:
+    """Opens a file that is made now. Raises FileExistsError if anything has this name, such as a link."""
+    return open(os.open(path, _NEW, 0o666), "wb")
+
+
+def write_new(path: Path, texts: Iterable[str]) -> None:
+    """Writes a file that is made now, in ASCII. It is on the disk, or isn't there. Raises OSError."""
+    with new_file(path) as file, _removed_if_failed(path):
+        file.writelines(text.encode("ascii") for text in texts)
+        file.flush()
+        os.fsync(file.fileno())
+
+
+def move(path: Path, new_path: Path) -> None:
+    """Gives a file a name that nothing has yet, also on another file system. It is on the disk. Raises OSError."""
+    try:
+        if os.path.lexists(new_path):
+            raise FileExistsError(errno.EEXIST, os.strerror(errno.EEXIST), os.fspath(new_path))
+        os.rename(path, new_path)
+    except OSError as error:
+        if error.errno != errno.EXDEV:
+            raise
+        _copy(path, new_path)
+        os.remove(path)
+
+
+def _copy(path: Path, new_path: Path) -> None:
+    with open(path, "rb") as source, new_file(new_path) as file, _removed_if_failed(new_path):
+        shutil.copyfileobj(source, file)
+        file.flush()
+        os.fsync(file.fileno())
+
+
+@contextlib.contextmanager
+def _removed_if_failed(path: Path) -> Iterator[None]:
+    try:
+        yield
+    except BaseException:
+        remove(path)
+        raise
+
+
+def remove(path: Path) -> None:
+    """Removes a regular file, if there is one of this name. Raises OSError."""
+    if is_regular(path):
+        os.remove(path)
+
+
+def is_in(path: Path, folder: Path) -> bool:
+    """Returns whether a path is a folder or is below it, by whatever name. Neither has to be there."""
+    at = os.path.realpath(path)
+    while True:
+        with contextlib.suppress(OSError):
+            if os.path.samefile(at, folder):
+                return True
+        above = os.path.dirname(at)
+        if above == at:
+            return False
+        at = above
+
+
+def write_to_disk(folder: Path) -> None:
+    """Writes to the disk which names a folder has."""
+    descriptor = os.open(folder, os.O_RDONLY | os.O_DIRECTORY | os.O_CLOEXEC)
+    try:
+        os.fsync(descriptor)
+    finally:
+        os.close(descriptor)
