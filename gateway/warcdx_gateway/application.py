@@ -130,14 +130,15 @@ class Gateway:
     def source(self, collection: Collection, client: Optional[socket.socket] = None) -> Source:
         """Returns what asks the indexes for an answer that may be wide or costly.
 
-        It raises ConnectionResetError if the client has left with a reset.
+        It raises ConnectionResetError if the client has closed the connection, or its side of it.
         """
 
         def beat() -> None:
             self.beat()
             if client is not None:
                 with contextlib.suppress(BlockingIOError):
-                    client.recv(1, socket.MSG_PEEK | socket.MSG_DONTWAIT)
+                    if not client.recv(1, socket.MSG_PEEK | socket.MSG_DONTWAIT):
+                        raise ConnectionResetError(errno.ECONNRESET, "the client has left")
 
         limits = self.settings.limits
         return Source(collection, limits.wide, limits.query, beat)

@@ -182,13 +182,17 @@ def available(gateway: Gateway, request: GatewayRequest) -> Response:
 
     A POST has a query on each line, and `results` in the order of the lines.
     """
+    with gateway.slot():
+        return _availability(gateway, request)
+
+
+def _availability(gateway: Gateway, request: GatewayRequest) -> Response:
     if request.method == "POST":
         lines = [line for line in request.get_data(as_text=True).split("\n") if line.strip()]
         if len(lines) > MOST_ASKED:
             raise Refusal("TooMany", "url", f"a request has at most {MOST_ASKED} lines")
         asked = [MultiDict(parse_qsl(line.strip())) for line in lines]
-        with gateway.slot():
-            found: object = {"results": [_available(gateway, request, each) for each in asked]}
+        found: object = {"results": [_available(gateway, request, each) for each in asked]}
     else:
         found = _available(gateway, request, request.args)
     return Response(json.dumps(found, ensure_ascii=False) + "\n", content_type=JSON)

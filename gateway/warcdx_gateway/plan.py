@@ -129,8 +129,9 @@ class Plan:
 
     @property
     def is_exact(self) -> bool:
-        """Whether it is for the captures of one key, as they come."""
-        is_costly = self.resolves or any(each.pattern is not None for each in self.conditions)
+        """Whether it is for the captures of one key, as they come: a key may have a million of them."""
+        has_steps = self.collapses or self.resolves or self.counts_pages or self.counts_duplicates
+        is_costly = has_steps or any(each.pattern is not None for each in self.conditions)
         return self.is_one_key and not is_costly and self.order is Order.FORWARD
 
     @property
