@@ -67,9 +67,10 @@ def original_of(collection: Collection, head: Head) -> Optional[Capture]:
     at = f"&from={time}&to={time}" if len(time) == 14 else ""
     same = f"&is=digest:{quote_plus(digest, errors='surrogateescape')}" if digest else ""
     asked = f"url={quote_plus(url, errors='surrogateescape')}&matchType=exact&isnot=mimetype:{REVISIT}&limit=1"
-    for conditions in filter(None, dict.fromkeys((at and at + same, same))):
-        for capture in collection.index.captures(asked + conditions):
-            return capture
+    with contextlib.suppress(Refused):  # as for a URL that is none
+        for conditions in filter(None, dict.fromkeys((at and at + same, same))):
+            for capture in collection.index.captures(asked + conditions):
+                return capture
     return None
 
 
