@@ -13,6 +13,10 @@ _SIGNALS = (signal.SIGINT, signal.SIGTERM, signal.SIGHUP)
 class Ended(BaseException):
     """A signal ends the command. No command handles it, but each one cleans up as it passes."""
 
+    def __init__(self, number: int) -> None:
+        super().__init__(number)
+        self.number = number
+
 
 def catch_signals() -> None:
     """Lets the first signal raise Ended in the main thread, but for those that the starter ignores. Later ones do nothing."""
@@ -33,14 +37,13 @@ def _raise_ended(number: int, frame: Optional[FrameType]) -> None:
 def _end_in_finalizer(arguments: "sys.UnraisableHookArgs") -> None:
     """Ends the process where Python would print and ignore Ended, as in a finalizer."""
     if isinstance(arguments.exc_value, Ended):
-        end_by(arguments.exc_value)
+        end_by(arguments.exc_value.number)
     else:
         sys.__unraisablehook__(arguments)
 
 
-def end_by(ended: Ended) -> None:
+def end_by(number: int) -> None:
     """Ends the process by the signal that has ended the command."""
-    (number,) = ended.args
     signal.signal(number, signal.SIG_DFL)
     os.kill(os.getpid(), number)
 

@@ -227,22 +227,22 @@ def new_file(path: str) -> Iterator[IO[bytes]]:
     """Makes a file that has its name once it is whole. Raises FileExistsError if anything has the name."""
     check_that_it_is_new(path)
     begun = os.path.join(os.path.dirname(path), f".{NAME}-{secrets.token_hex(8)}")
-    file = None
-    try:
-        with blocked():
-            file = open(begun, "xb")
-        yield file
-        file.flush()
-        os.fsync(file.fileno())
-        give_name(begun, path)
-    except OSError as error:
-        if error.filename in (None, begun):
-            error.filename = path
-        raise
-    finally:
-        if file is not None:
+    with contextlib.ExitStack() as stack:
+        try:
             with blocked():
-                remove(begun, file)
+                file = open(begun, "xb")
+                stack.callback(remove, begun, file)
+            yield file
+            file.flush()
+            os.fsync(file.fileno())
+            give_name(begun, path)
+        except OSError as error:
+            if error.filename in (None, begun):
+                error.filename = path
+            raise
+        finally:
+            with blocked():
+                stack.close()
 
 
 def give_name(begun: str, path: str) -> None:
