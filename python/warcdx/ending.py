@@ -51,8 +51,9 @@ def end_by(number: int) -> None:
 @contextlib.contextmanager
 def blocked() -> Iterator[None]:
     """Lets a signal come only after a block, such as one that makes what has to be removed later."""
-    before = signal.pthread_sigmask(signal.SIG_BLOCK, _SIGNALS)
+    before = signal.pthread_sigmask(signal.SIG_BLOCK, ())
     try:
+        signal.pthread_sigmask(signal.SIG_BLOCK, _SIGNALS)  # which itself raises what a signal before it raises
         yield
     finally:
         signal.pthread_sigmask(signal.SIG_SETMASK, before)

@@ -10,7 +10,7 @@ from urllib.parse import quote_plus
 from .collection import Collection
 from .errors import Refused
 from .query import Capture
-from .record import Head, RecordStream
+from .record import Head, RecordStream, without_brackets
 from .stamps import stamp_of
 
 REVISIT = "warc/revisit"
@@ -59,7 +59,7 @@ def original_of(collection: Collection, head: Head) -> Optional[Capture]:
     It is one of the URL that the head refers to, or else of its own, with the digest and the time if the head has them, or else with
     the digest alone.
     """
-    url = _without_brackets(head.field("WARC-Refers-To-Target-URI") or head.field("WARC-Target-URI") or "")
+    url = without_brackets(head.field("WARC-Refers-To-Target-URI") or "") or head.url
     digest = _SHA1.sub("", head.field("WARC-Payload-Digest") or "", count=1)
     time = _NOT_DIGITS.sub("", head.field("WARC-Refers-To-Date") or "")[:14]
     if not url:
@@ -72,11 +72,6 @@ def original_of(collection: Collection, head: Head) -> Optional[Capture]:
             for capture in collection.index.captures(asked + conditions):
                 return capture
     return None
-
-
-def _without_brackets(url: str) -> str:
-    """Returns a URL without the brackets that GNU Wget writes around it."""
-    return url[1:-1] if url.startswith("<") and url.endswith(">") else url
 
 
 @contextlib.contextmanager

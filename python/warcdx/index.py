@@ -88,6 +88,7 @@ class Index:
             _check_that_it_opens(name)
         self.seconds = seconds
         self.most = most
+        self._names = names
         self._processes = processes
         self._is_closed = False
         # The last one that was used is used next, so that no more are started than are needed. After
@@ -239,6 +240,9 @@ class Index:
             encoded = line.encode(errors="surrogateescape")
             yield from serve.stream(encoded, asked.has("output", "json"), self.seconds)
 
+    def __repr__(self) -> str:
+        return f"Index({self._names!r:.200})"
+
     def close(self) -> None:
         """Ends the processes, after the queries that are being answered. A second call does nothing."""
         if not self._is_closed:
@@ -261,6 +265,8 @@ class Index:
 
         If no query can have that key, the page is read again, longer, and what follows in it is a further page.
         """
+        if size < 1:
+            raise ValueError("page_size has to be 1 or more")
         query, left = asked
         length, given = size, 0  # captures of the page, and how many of these were yielded
         while True:
