@@ -213,6 +213,17 @@ class Fetching(Case):
         self.assertEqual((1, 3), (status, error.count("it is a revisit, and no index has its original\n")))
         self.assertEqual([b"20180102030405-example.com.html 20180102030405 http://example.com/"], output.splitlines())
 
+    def test_a_revisit_that_the_index_names_as_a_page(self) -> None:
+        index = self.folder / "a.cdxj"
+        again = SAME.replace(URL, "http://example.com/x").replace("2016-09-19T17:20:24Z", "2019-01-01T00:00:00Z")
+        record = response("2019-01-01T00:00:00Z", b"", "http://example.com/x", kind="revisit", more=again)
+        self.archive.write_bytes(record)
+        with open(index, "wb") as file:
+            open_archive(self.archive, program=PROGRAM).index(file)
+        index.write_text(index.read_text().replace("warc/revisit", "text/html"))
+        status, output, error = self.fetch("http://example.com/x")
+        self.assertEqual((1, b""), (status, output), error)
+
     def test_a_url_is_on_one_line(self) -> None:
         line = (
             'com,example)/ 20160919172024 {"url": "http://a/\\nb\\u202ec", "mime": "-", "status": "200", "digest": "-", '

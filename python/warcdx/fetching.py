@@ -82,8 +82,9 @@ def opened_page(collection: Collection, capture: Capture) -> Iterator[Optional[R
     """
     with contextlib.ExitStack() as stack:
         record = stack.enter_context(collection.stream(capture))
-        if record.head.kind == "revisit":
-            original = original_of(collection, record.head)
-            yield None if original is None else stack.enter_context(collection.stream(original))
-        else:
+        if record.head.kind != "revisit":
             yield record
+            return
+        original = original_of(collection, record.head)
+        page = None if original is None else stack.enter_context(collection.stream(original))
+        yield page if page and page.head.kind != "revisit" else None  # indexes may name revisits otherwise
