@@ -47,6 +47,11 @@ FOLDER = """
 """
 
 
+TWO = """
+    with blocked():
+        for number in (signal.SIGTERM, signal.SIGHUP, signal.SIGTERM):
+            os.kill(os.getpid(), number)
+"""
 UNBEGUN = """
     def begun():
         made = temporary_folder()
@@ -74,6 +79,11 @@ class Signals(Case):
         status, (_, *lines), error = self.ended(FOLDER)
         self.assertEqual((-signal.SIGTERM, ["blocked"], b""), (status, lines, error))
         self.assertEqual([], list(self.folder.iterdir()))
+
+    def test_of_two_signals_at_once_one_ends_the_command(self) -> None:
+        status, lines, error = self.ended(TWO)
+        self.assertIn(status, (-signal.SIGTERM, -signal.SIGHUP))
+        self.assertEqual(([], b""), (lines, error))
 
     def test_a_signal_that_comes_as_a_block_begins_is_not_blocked_later(self) -> None:
         real = signal.pthread_sigmask
