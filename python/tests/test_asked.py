@@ -105,6 +105,8 @@ class Parameters(Case):
             self.assertEqual(wanted, str(self.raises(TypeError, call)))
         self.assertIn("page_size", str(self.raises(ValueError, list, index.captures(page_size=0))))
         self.assertIn("but text and stream", str(self.raises(refusals.RepeatedParameter, index.count, query="key=&fl=urlkey")))
+        self.assertEqual((True, False), ("http://example.com/0000001" in index, "http://example.com/*" in index))
+        self.raises(TypeError, lambda: 5 in index)
         self.assertEqual(f"Index(('{self.folder}/index',))", repr(index))
 
     def test_signatures_have_each_parameter_with_its_type(self) -> None:

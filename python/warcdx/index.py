@@ -220,6 +220,12 @@ class Index:
         """Yields all captures."""
         return self.captures()
 
+    def __contains__(self, url: object) -> bool:
+        """Returns whether there is a capture of a URL."""
+        if not isinstance(url, str):
+            raise TypeError(f"`in` takes a URL, and not {url!r:.60}")
+        return self.count(url, match="exact", limit=1) > 0
+
     def text(self, query: str) -> bytes:
         """Returns a page as `warcdx query` writes it."""
         line = one_line(query)
