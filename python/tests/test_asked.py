@@ -147,6 +147,8 @@ class Results(Case):
             self.assertEqual(f"{missing}: CannotOpen (No such file or directory)", str(fault))
             again = pickle.loads(pickle.dumps(fault))
             self.assertEqual((type(fault), str(fault), missing), (type(again), str(again), again.filename))
+        for odd in ("a\0b", "\ud800"):
+            self.raises(faults.CannotOpen, Index, odd, program=PROGRAM)
         self.assertIsInstance(faults.cannot_open("a", 13), PermissionError)
         self.assertNotIsInstance(faults.cannot_open("a", 40), OSError)
 

@@ -334,5 +334,5 @@ def _fields_of(fields: Union[str, Sequence[str]]) -> tuple[str, ...]:
 def _check_that_it_opens(path: str) -> None:
     try:
         os.close(os.open(path, os.O_RDONLY | os.O_NONBLOCK | os.O_CLOEXEC))
-    except OSError as error:
-        raise cannot_open(path, error.errno) from error
+    except (OSError, ValueError) as error:  # ValueError: such as a path with a NUL
+        raise cannot_open(path, getattr(error, "errno", None)) from error
