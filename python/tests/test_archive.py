@@ -1,12 +1,14 @@
 """Archives and records."""
 import gzip
 import hashlib
+import io
 import os
 import subprocess
 import unittest
 import zlib
 
 from warcdx import Archive, Listed, ProgramEnded, Record, Unreadable, Verified, faults, payload
+from warcdx.record import RecordStream
 
 from .support import PROGRAM, SAMPLES, Case
 
@@ -91,6 +93,33 @@ class Records(Case):
         self.assertEqual((200, "OK", "b", b"body"), (record.http.status, record.http.reason, record.http.field("a"), record.payload()))
         other = Record((("WARC-Type", "resource"), ("Content-Type", "text/plain")), b"HTTP/1.1 200 OK\r\n\r\nbody")
         self.assertEqual((None, other.block, ()), (other.http, other.payload(), other.stored_otherwise))
+
+    def test_a_block_is_not_printed(self) -> None:
+        record = Record((("WARC-Type", "resource"), ("WARC-Target-URI", "<http://a/>")), bytes(60_000_000))
+        self.assertEqual("Record((('WARC-Type', 'resource'), ('WARC-Target-URI', '<http://a/>')), <60,000,000 bytes>)", repr(record))
+        self.assertEqual(("http://a/", record.fields), (record.url, record.headers))
+        self.assertIsNone(Record((), b"").url)
+
+    def test_a_record_in_pieces_is_read_once(self) -> None:
+        def opened() -> RecordStream:
+            stream = RecordStream.read(io.BytesIO(HEAD[:-2] + b"Content-Length: 23\r\n\r\nHTTP/1.1 200 OK\r\n\r\nbody\r\n\r\n"))
+            assert stream is not None
+            return stream
+
+        for first, second, wanted in (
+            ("payload", "payload", b"body"),
+            ("payload", "block", b"body"),
+            ("block", "stored_payload", b"HTTP/1.1 200 OK\r\n\r\nbody"),
+        ):
+            stream = opened()
+            self.assertEqual(wanted, b"".join(getattr(stream, first)()))
+            with self.assertRaises(ValueError):
+                list(getattr(stream, second)())
+        stream = opened()
+        self.assertEqual(200, stream.http and stream.http.status)
+        with self.assertRaises(ValueError):  # its beginning was read
+            list(stream.block())
+        self.assertEqual(b"body", b"".join(stream.payload()))
 
     def test_a_field_may_be_continued(self) -> None:
         record = Record.read(response(b"", b"body"))

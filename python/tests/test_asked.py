@@ -94,6 +94,21 @@ class Parameters(Case):
         self.assertIn("is_", str(self.raises(refusals.NotLiteral, index.count, filter="original:.*")))
         self.assertIn("timestamp", str(self.raises(refusals.BadField, index.columns, "time")))
 
+    def test_values_of_other_types_are_named(self) -> None:
+        index = self.open(self.put(lines(2)))
+        for wanted, call in (
+            ("url is a text, and not b'a'", lambda: index.captures(b"a")),  # type: ignore[arg-type]
+            ("query is a text, and not {}", lambda: index.captures(query={})),  # type: ignore[arg-type]
+            ("limit has to be a text, or a list of texts, and not 2.0", lambda: index.captures(limit=2.0)),  # type: ignore[arg-type]
+            ("filter has to be a text, or a list of texts, and not None", lambda: index.captures(filter=[None])),  # type: ignore[list-item]
+        ):
+            self.assertEqual(wanted, str(self.raises(TypeError, call)))
+        self.assertIn("page_size", str(self.raises(ValueError, list, index.captures(page_size=0))))
+        self.assertIn("but text and stream", str(self.raises(refusals.RepeatedParameter, index.count, query="key=&fl=urlkey")))
+        self.assertEqual((True, False), ("http://example.com/0000001" in index, "http://example.com/*" in index))
+        self.raises(TypeError, lambda: 5 in index)
+        self.assertEqual(f"Index(('{self.folder}/index',))", repr(index))
+
     def test_signatures_have_each_parameter_with_its_type(self) -> None:
         for call in CALLS:
             found = inspect.signature(call).parameters
@@ -128,9 +143,12 @@ class Results(Case):
         ):
             fault = self.raises(faults.CannotOpen, call)
             self.assertIsInstance(fault, FileNotFoundError)
+            self.assertEqual("CannotOpen", type(fault).__qualname__)
             self.assertEqual(f"{missing}: CannotOpen (No such file or directory)", str(fault))
             again = pickle.loads(pickle.dumps(fault))
             self.assertEqual((type(fault), str(fault), missing), (type(again), str(again), again.filename))
+        for odd in ("a\0b", "\ud800"):
+            self.raises(faults.CannotOpen, Index, odd, program=PROGRAM)
         self.assertIsInstance(faults.cannot_open("a", 13), PermissionError)
         self.assertNotIsInstance(faults.cannot_open("a", 40), OSError)
 

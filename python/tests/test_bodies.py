@@ -65,6 +65,7 @@ SHAPES = [
     Shape(BOTH, PACKED, TEXT, ("chunked",)),
     Shape(BOTH, chunks(TEXT), TEXT, ("gzip",)),
     Shape(BOTH, chunks(PACKED), TEXT),
+    Shape(CHUNKED, b"%020x\r\n%s\r\n%020x\r\n\r\n" % (len(TEXT), TEXT, 0), TEXT),
     Shape("Transfer-Encoding:\r\n chunked", chunks(TEXT), TEXT),
     Shape("Transfer-Encoding: \n\tchunked", chunks(TEXT), TEXT),
     Shape("Content-Encoding:\n \n  gzip", PACKED, TEXT),

@@ -118,6 +118,15 @@ class Collections(Case):
             self.assertEqual(b"abc", record(self.capture(0, len(text), name)).block)
         self.raises(NoArchive, record, self.capture(0, len(text), "b.warc"))
 
+    def test_archives_are_by_default_beside_the_index(self) -> None:
+        index = self.put("")
+        with Collection([index], program=PROGRAM) as collection:
+            self.assertEqual(str(self.folder / "a.warc"), collection.path("a.warc"))
+        collection = self.collection(iter(["nosuch", self.folder]))
+        self.assertEqual([str(index)] * 2, [collection.path("index") for _ in range(2)])
+        with self.assertRaises(ValueError):
+            Collection(index, [], program=PROGRAM)
+
     def test_a_fault_of_the_reader_is_kept(self) -> None:
         text = resource(b"abc")
         (self.folder / "a.warc").write_bytes(text)

@@ -6,7 +6,10 @@ import signal
 import subprocess
 import sys
 import unittest
+import unittest.mock
 import warcdx_start
+
+from warcdx.ending import blocked
 
 from .support import WAIT, Case
 
@@ -44,6 +47,21 @@ FOLDER = """
 """
 
 
+TWO = """
+    with blocked():
+        for number in (signal.SIGTERM, signal.SIGHUP, signal.SIGTERM):
+            os.kill(os.getpid(), number)
+"""
+UNBEGUN = """
+    def begun():
+        made = temporary_folder()
+        made.__enter__()
+        os.kill(os.getpid(), signal.SIGTERM)
+        time.sleep(0.01)
+    begun()
+"""
+
+
 class Signals(Case):
     def ended(self, text: str) -> tuple[int, list[str], bytes]:
         """Returns how a command ends, and what it has written."""
@@ -60,6 +78,31 @@ class Signals(Case):
     def test_a_signal_that_is_blocked_comes_after_the_block(self) -> None:
         status, (_, *lines), error = self.ended(FOLDER)
         self.assertEqual((-signal.SIGTERM, ["blocked"], b""), (status, lines, error))
+        self.assertEqual([], list(self.folder.iterdir()))
+
+    def test_of_two_signals_at_once_one_ends_the_command(self) -> None:
+        status, lines, error = self.ended(TWO)
+        self.assertIn(status, (-signal.SIGTERM, -signal.SIGHUP))
+        self.assertEqual(([], b""), (lines, error))
+
+    def test_a_signal_that_comes_as_a_block_begins_is_not_blocked_later(self) -> None:
+        real = signal.pthread_sigmask
+
+        def interrupted(how: int, numbers: "tuple[int, ...]") -> "set[int]":
+            before = real(how, numbers)
+            if numbers and how == signal.SIG_BLOCK:
+                raise KeyboardInterrupt
+            return before
+
+        before = real(signal.SIG_BLOCK, ())
+        with self.assertRaises(KeyboardInterrupt), unittest.mock.patch("signal.pthread_sigmask", interrupted), blocked():
+            self.fail()
+        self.assertEqual(before, real(signal.SIG_SETMASK, before))
+
+    def test_a_signal_that_comes_before_a_block_removes_its_folder(self) -> None:
+        """As if it comes in `with`, when the folder is there and the block isn't begun."""
+        status, lines, error = self.ended(UNBEGUN)
+        self.assertEqual((-signal.SIGTERM, [], b""), (status, lines, error))
         self.assertEqual([], list(self.folder.iterdir()))
 
 

@@ -1,11 +1,15 @@
 """Tests of warcdx-fetch: which capture it takes, what it writes, and that nothing is replaced."""
 import datetime
+import errno
 import gzip
 import os
 import pathlib
+import resource
 import subprocess
 import sys
 import unittest
+import unittest.mock
+from collections.abc import Callable
 from typing import Optional
 
 from warcdx import fetch_command, open_archive
@@ -84,7 +88,13 @@ class Fetching(Case):
             with open(self.folder / name, "wb") as index:
                 open_archive(path, program=PROGRAM).index(index)
 
-    def fetch(self, *words: str, index: str = "a.cdxj", environment: Optional[dict[str, str]] = None) -> tuple[int, bytes, str]:
+    def fetch(
+        self,
+        *words: str,
+        index: str = "a.cdxj",
+        environment: Optional[dict[str, str]] = None,
+        before: Optional[Callable[[], None]] = None,
+    ) -> tuple[int, bytes, str]:
         options = ["--index", index] if index else []
         done = subprocess.run(
             (sys.executable, FOLDER / "bin/warcdx-fetch", "--warcdx", PROGRAM, *options, *words),
@@ -92,6 +102,7 @@ class Fetching(Case):
             env={**os.environ, **(environment or {})},
             stdout=subprocess.PIPE,
             stderr=subprocess.PIPE,
+            preexec_fn=before,
         )
         return done.returncode, done.stdout, done.stderr.decode()
 
@@ -116,7 +127,8 @@ class Fetching(Case):
         ):
             self.assertEqual((1, b"", f"warcdx-fetch: {wanted}\n"), self.fetch(*words), words)
         os.remove(self.archive)
-        self.assertEqual((3, b"", f"warcdx-fetch: {self.folder}/a.warc: cannot open\n"), self.fetch(URL))
+        why = "cannot open (No such file or directory)"
+        self.assertEqual((3, b"", f"warcdx-fetch: {self.folder}/a.warc: {why}\n"), self.fetch(URL))
 
     def test_variables_of_the_environment(self) -> None:
         folder = self.folder / "moved"
@@ -137,6 +149,35 @@ class Fetching(Case):
         self.assertEqual(b"new!\n", (self.folder / "page").read_bytes())
         self.assertEqual(1, self.fetch("-o", "lost", "http://example.com/lost")[0])
         self.assertEqual({"a.warc", "b.warc.gz", "a.cdxj", "b.cdxj", "page"}, set(os.listdir(self.folder)))
+        self.assertEqual((0, b"new!\n", ""), self.fetch("-o", "-", URL))
+        self.assertEqual((0, b"", ""), self.fetch("-o", "\u00e9" * 127, URL))  # as long as a name may be
+
+    def test_a_disk_that_is_full(self) -> None:
+        def no_byte() -> None:
+            resource.setrlimit(resource.RLIMIT_FSIZE, (0, 0))
+
+        self.assertEqual((3, b"", "warcdx-fetch: page: File too large\n"), self.fetch("-o", "page", URL, before=no_byte))
+        self.assertEqual((3, b"", "warcdx-fetch: x.warc.gz: File too large\n"), self.fetch("--all", "-o", "x.warc.gz", URL, before=no_byte))
+        self.assertEqual({"a.warc", "b.warc.gz", "a.cdxj", "b.cdxj"}, set(os.listdir(self.folder)))
+
+    def test_a_file_system_without_links(self) -> None:
+        path = self.folder / "page"
+        with unittest.mock.patch("os.link", side_effect=PermissionError(errno.EPERM, "no links")):
+            with fetch_command.new_file(os.fspath(path)) as file:
+                file.write(b"page")
+            self.assertEqual(b"page", path.read_bytes())
+            path.unlink()
+            with self.assertRaises(FileExistsError), fetch_command.new_file(os.fspath(path)) as file:
+                path.write_bytes(b"another one")
+            self.assertEqual(b"another one", path.read_bytes())
+        self.assertEqual({"a.warc", "b.warc.gz", "a.cdxj", "b.cdxj", "page"}, set(os.listdir(self.folder)))
+
+    def test_a_file_that_comes_meanwhile_is_not_replaced(self) -> None:
+        path = self.folder / "page"
+        with self.assertRaises(FileExistsError) as caught, fetch_command.new_file(os.fspath(path)):
+            path.write_bytes(b"another one")
+        self.assertEqual(os.fspath(path), caught.exception.filename)
+        self.assertEqual(b"another one", path.read_bytes())
 
     def test_all_as_files(self) -> None:
         status, output, error = self.fetch("--all", "-o", "all", "example.com/*")
@@ -150,6 +191,47 @@ class Fetching(Case):
         self.assertEqual([b"old", b"new!\n", b"old"], [(self.folder / "all" / name).read_bytes() for name in names])
         self.assertEqual(sorted(names), sorted(os.listdir(self.folder / "all")))
         self.assertEqual(3, self.fetch("--all", "-o", "all", "example.com/*")[0])
+
+    def test_nothing_is_made_for_a_query_without_captures(self) -> None:
+        for query, wanted in (
+            ("example.com/x*", "no index has a capture of it"),
+            ("url=example.com&from=June", "the query is refused: BadStamp in from (see docs/QUERY.md)"),
+        ):
+            for output in ("all", "all.warc.gz"):
+                self.assertEqual((1, b"", f"warcdx-fetch: {query}: {wanted}\n"), self.fetch("--all", "-o", output, query))
+                self.assertFalse((self.folder / output).exists())
+
+    def test_a_revisit_of_what_is_no_url(self) -> None:
+        odd = [
+            response("2019-01-01T00:00:00Z", b"", f"http://example.com/{number}", kind="revisit", more=SAME.replace(URL, url))
+            for number, url in enumerate(("http://", "x" * 70_000, "a b"))
+        ]
+        self.archive.write_bytes(b"".join(odd) + NEW)
+        with open(self.folder / "a.cdxj", "wb") as index:
+            open_archive(self.archive, program=PROGRAM).index(index)
+        status, output, error = self.fetch("--all", "-o", "all", "example.com/*")
+        self.assertEqual((1, 3), (status, error.count("it is a revisit, and no index has its original\n")))
+        self.assertEqual([b"20180102030405-example.com.html 20180102030405 http://example.com/"], output.splitlines())
+
+    def test_a_revisit_that_the_index_names_as_a_page(self) -> None:
+        index = self.folder / "a.cdxj"
+        again = SAME.replace(URL, "http://example.com/x").replace("2016-09-19T17:20:24Z", "2019-01-01T00:00:00Z")
+        record = response("2019-01-01T00:00:00Z", b"", "http://example.com/x", kind="revisit", more=again)
+        self.archive.write_bytes(record)
+        with open(index, "wb") as file:
+            open_archive(self.archive, program=PROGRAM).index(file)
+        index.write_text(index.read_text().replace("warc/revisit", "text/html"))
+        status, output, error = self.fetch("http://example.com/x")
+        self.assertEqual((1, b""), (status, output), error)
+
+    def test_a_url_is_on_one_line(self) -> None:
+        line = (
+            'com,example)/ 20160919172024 {"url": "http://a/\\nb\\u202ec", "mime": "-", "status": "200", "digest": "-", '
+            f'"length": "{len(OLD)}", "offset": "0", "filename": "a.warc"}}\n'
+        )
+        (self.folder / "a.cdxj").write_text(line)
+        wanted = b'20160919172024-a_b_c 20160919172024 "http://a/\\nb\\u202ec"\n'
+        self.assertEqual((0, wanted, ""), self.fetch("--all", "-o", "all", URL))
 
     def test_all_as_an_archive(self) -> None:
         for index in ("a.cdxj", "b.cdxj"):
@@ -170,6 +252,9 @@ class Fetching(Case):
         for words, wanted in (
             (("--all", URL), "--all needs -o OUTPUT"),
             (("--all", "-o", "x", "--at", "2016", URL), "--at"),
+            (("--all", "-o", "-", URL), "--all needs -o OUTPUT"),
+            (("--all", "-o", "x.warc", URL), "the name of a new archive ends with .warc.gz"),
+            (("-o", "", URL), "-o FILE is empty"),
             (("--at", "never", URL), "TIME is a date"),
             ((), "URL"),
         ):
@@ -188,6 +273,7 @@ class Names(unittest.TestCase):
             ("http://a.com/%2e%2e%2fx?q=1&r", "x/none", "a.com_.._x_q_1_r"),
             ("http://a.com/x.php?q=b.c", "text/html", "a.com_x.php_q_b.c.php"),
             ("http://a.com/" + "y" * 999, "x/none", ("a.com_" + "y" * 999)[:150]),
+            ("http://a.com/x.", "x/none", "a.com_x"),
             ("dns:a.com", "x/none", "dns_a.com"),
             ("http://a.com/\x00\n\ud800", "x/none", "a.com"),
         ):

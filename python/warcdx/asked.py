@@ -34,6 +34,9 @@ class Asked(NamedTuple):
         Raises the refusal Unknown for a name that no parameter has, and BadStamp for what is no date.
         """
         _check_names(others)
+        for name, text in (("url", url), ("query", query)):
+            if not isinstance(text, (str, type(None))):
+                raise TypeError(f"{name} is a text, and not {text!r:.60}")
         given: dict[str, Value] = {}
         if url is query is match is None and not _TARGETS & others.keys():
             given = {"key": "", "matchType": "prefix"}

@@ -19,7 +19,7 @@ _PACKED_BY_BROTLI = 16  # the same for the module brotli, which has no bound: 13
 _TRIED = 512  # bytes from the start of a body that show whether it unpacks, if its coding begins with no certain ones
 _MOST_LINE = 1 << 14  # bytes of the line before a chunk
 _GZIP = b"\x1f\x8b"
-_CHUNK_HEAD = rb"([0-9A-Fa-f]{1,15})[ \t]*(?:;[^\r\n]*)?\r?\n"
+_CHUNK_HEAD = rb"0*([0-9A-Fa-f]{1,15})[ \t]*(?:;[^\r\n]*)?\r?\n"
 _FIRST_CHUNK, _NEXT_CHUNK = re.compile(_CHUNK_HEAD), re.compile(rb"\r?\n" + _CHUNK_HEAD)
 # Codings that can't be undone here, and what their texts begin with.
 FOREIGN = {"compress": b"\x1f\x9d", "x-compress": b"\x1f\x9d", "zstd": b"\x28\xb5\x2f\xfd"}

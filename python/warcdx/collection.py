@@ -21,7 +21,7 @@ class Collection:
     """Indexes, and the archives that they name.
 
     `archives` is the folder of the archives, several folders, or a mapping from the file names in the indexes to
-    paths. Of several folders, the first that has a file of the name counts. In a
+    paths. Without it, they are in the folder of the first index. Of several folders, the first that has a file of the name counts. In a
     folder, a file name in an index may name a file in a folder below, as in `2016/a.warc.gz`. One that begins
     with `/`, or has an empty part, `.` or `..` between its slashes, names no archive, so that no name leads out
     of the folder. Symbolic links in the folder are followed.
@@ -36,13 +36,22 @@ class Collection:
     def __init__(
         self,
         indexes: Union[Path, Sequence[Path]],
-        archives: Archives,
+        archives: Optional[Archives] = None,
         *,
         program: str = "warcdx",
         processes: int = 1,
     ) -> None:
         self.index = Index(indexes, program=program, processes=processes)
-        self._archives = archives
+        if archives is None:
+            first = indexes if isinstance(indexes, (str, os.PathLike)) else indexes[0]
+            archives = os.path.dirname(os.path.abspath(first))
+        if isinstance(archives, (str, os.PathLike)):
+            archives = [archives]
+        self._archives: Union[tuple[Path, ...], Mapping[str, Path]] = (
+            archives if isinstance(archives, Mapping) else tuple(archives)
+        )
+        if not self._archives:
+            raise ValueError("no folder is given")
         self._program = find_program(program)
         self._known: dict[str, Archive] = {}
 
@@ -116,8 +125,7 @@ class Collection:
         path = _path_of(name)
         if path is None:
             raise NoArchive(name)
-        folders = [self._archives] if isinstance(self._archives, (str, os.PathLike)) else self._archives
-        found = [os.path.join(os.fspath(folder), path) for folder in folders]
+        found = [os.path.join(os.fspath(folder), path) for folder in self._archives]
         return next((each for each in found if os.path.exists(each)), found[0])
 
     def close(self) -> None:

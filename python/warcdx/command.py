@@ -75,15 +75,19 @@ def run(name: str, work: Callable[[BinaryIO], int]) -> int:
     programs are ended.
     """
     said = no_memory = _message(name, "Memory")
+    number: Optional[int] = None
     try:
         return _run_on_standard_streams(work)
     except Ended as ended:
-        end_by(ended)
+        number = ended.number
     except (OSError, RuntimeError) as error:
         said = _message(name, _failure_of(error))
     except (MemoryError, SystemError):  # SystemError: Python's own code had no memory for an exception
         said = no_memory
-    # What the exception held is free, so that there is memory to say so.
+    # What the exception held is free, so that there is memory to say so. And each `with` block that a signal has kept
+    # from being begun, after its file was made, has ended.
+    if number is not None:
+        end_by(number)
     write_error(said)
     return FAILED
 

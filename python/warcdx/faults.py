@@ -108,6 +108,10 @@ class _Forbidden(CannotOpen, PermissionError):
     """Opening the file isn't allowed."""
 
 
+for _kind in (_Missing, _Forbidden):
+    _kind.__name__ = _kind.__qualname__ = "CannotOpen"  # as tracebacks have it
+
+
 def cannot_open(path: str, error: Optional[int]) -> CannotOpen:
     """Returns the fault of a file that can't be opened. `error` is the number of the system's error, if it is known."""
     kinds = {errno.ENOENT: _Missing, errno.EACCES: _Forbidden, errno.EPERM: _Forbidden}

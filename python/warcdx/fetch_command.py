@@ -9,10 +9,11 @@ compression. For a revisit it is the page of its original. With --record the who
 
 With --all, every capture that QUERY selects is written: into a new folder OUTPUT, with a file for each and a line
 `FILE TIMESTAMP URL` for each on standard output; or into a new archive, if OUTPUT ends with .warc.gz, with the records as
-they are stored. QUERY is a URL, in which * stands at the end or before the host, or a query as of warcdx query.
+they are stored. QUERY is a URL, in which * stands at the end or before the host, or a query as of warcdx query. In a
+line, a URL that isn't printable is a JSON string.
 
 INDEX is by default the file of the variable WARCDX_INDEX, and FOLDER that of WARCDX_ARCHIVES, or else the folder of the
-first INDEX. No file is replaced. One has its name once it is whole.
+first INDEX. No file is replaced. One has its name once it is whole. `-o -` is standard output.
 
 The exit status is 0; 1 if there is no such capture, or one can't be read; 2 after a usage error; or 3 if a file can't
 be opened, or reading, writing, memory or the program failed. With --all what can't be read is named on standard error,
@@ -22,9 +23,11 @@ import argparse
 import contextlib
 import errno
 import functools
+import itertools
 import mimetypes
 import os
 import re
+import secrets
 import urllib.parse
 import zlib
 from collections.abc import Iterable, Iterator, Sequence
@@ -33,6 +36,7 @@ from typing import IO, BinaryIO, Optional
 from . import __version__
 from .collection import Collection
 from .command import FAILED, Parser, printable, report, run
+from .ending import blocked
 from .errors import Error, Fault, NoArchive, Refused
 from .faults import CannotFlush, CannotOpen, Input, Memory, Read, Write
 from .fetching import moment_of, nearest, opened_page
@@ -41,6 +45,7 @@ from .record import RecordStream, Unreadable
 
 NAME = "warcdx-fetch"
 ARCHIVE = ".warc.gz"
+STANDARD = "-"  # the name of standard output
 MISSED = 1  # the exit status if there is no such capture, or one can't be read
 _FAILURES = (CannotFlush, Input, Memory, Read, Write)
 _MOST_NAME = 150  # characters of a file's name that are of its URL
@@ -66,8 +71,12 @@ def read_arguments(arguments: Optional[Sequence[str]]) -> argparse.Namespace:
     if not given.index:
         parser.error("give --index INDEX, an index of the archives, as 'warcdx index' writes it")
     given.archives = given.archives or [os.environ.get("WARCDX_ARCHIVES") or os.path.dirname(os.path.abspath(given.index[0]))]
-    if given.all and given.output is None:
+    if given.output == "":
+        parser.error("-o FILE is empty")
+    if given.all and given.output in (None, STANDARD):
         parser.error("--all needs -o OUTPUT, a new folder or a new .warc.gz")
+    if given.all and given.output.lower().endswith((".warc", ARCHIVE)) and not given.output.endswith(ARCHIVE):
+        parser.error("the name of a new archive ends with .warc.gz")
     if given.all and given.at is not None:
         parser.error("--all writes the captures of all times; write from= and to= into QUERY in place of --at")
     return given
@@ -86,9 +95,14 @@ def fetch(given: argparse.Namespace, output: BinaryIO) -> int:
         if not given.all:
             return fetch_page(given, collection, output)
         captures = captures_of(collection, given.query)
+        first = next(captures, None)  # or a refusal, so that nothing is made for it
+        if first is None:
+            return say_there_is_none(given)
+        captures = itertools.chain((first,), captures)
         if given.output.endswith(ARCHIVE):
             with new_file(given.output) as file:
                 return write_archive(collection, captures, file)
+        check_that_it_is_new(given.output)
         os.mkdir(given.output)
         return write_files(given, collection, captures, output)
 
@@ -97,11 +111,16 @@ def fetch_page(given: argparse.Namespace, collection: Collection, output: Binary
     """Writes the page, or the record, that is nearest to a time, and returns the exit status."""
     capture = nearest(collection.index.captures(url=given.query, matchType="exact"), given.at)
     if capture is None:
-        report(NAME, f"{printable(given.query)}: no index has a capture of it")
-        return MISSED
-    with new_file(given.output) if given.output else contextlib.nullcontext(output) as file:
+        return say_there_is_none(given)
+    with contextlib.nullcontext(output) if given.output in (None, STANDARD) else new_file(given.output) as file:
         file.writelines(contents_of(collection, capture, given.record))
     return 0
+
+
+def say_there_is_none(given: argparse.Namespace) -> int:
+    hint = "; --all takes a URL with *" if "*" in given.query and not given.all else ""
+    report(NAME, f"{printable(given.query)}: no index has a capture of it{hint}")
+    return MISSED
 
 
 def captures_of(collection: Collection, query: str) -> Iterator[Capture]:
@@ -132,7 +151,7 @@ def write_files(given: argparse.Namespace, collection: Collection, captures: Ite
         except Error as error:
             status = max(status, say(capture, error))
         else:
-            output.write(f"{name} {capture.timestamp} {capture.original}\n".encode(errors="surrogateescape"))
+            output.write(f"{name} {capture.timestamp} {printable(capture.original)}\n".encode())
     return status
 
 
@@ -171,7 +190,9 @@ def reason_of(error: Error) -> str:
         return printable(str(error))
     file = "" if error.file is None else f"{printable(error.file)}: "
     place = "" if error.offset is None else f" {error.offset}"
-    return f"{file}{'cannot open' if isinstance(error, CannotOpen) else error.name}{place}"
+    if isinstance(error, CannotOpen):
+        return f"{file}cannot open" + (f" ({error.reason})" if error.reason else "")
+    return f"{file}{error.name}{place}"
 
 
 def name_of(capture: Capture, is_record: bool) -> str:
@@ -181,7 +202,8 @@ def name_of(capture: Capture, is_record: bool) -> str:
     ending = ".warc" if is_record else os.path.splitext(url.partition("/")[2].partition("?")[0])[1]
     if not _ENDING.fullmatch(ending):
         ending = mimetypes.guess_extension(capture.mimetype) or ""
-    return f"{capture.timestamp}-{front.removesuffix(ending)[:_MOST_NAME]}{ending}"
+    front = front.removesuffix(ending)[:_MOST_NAME].rstrip(".")  # which Windows leaves out at an end
+    return f"{capture.timestamp}-{front}{ending}"
 
 
 def unused(name: str, names: set[str]) -> str:
@@ -195,25 +217,52 @@ def unused(name: str, names: set[str]) -> str:
     return found
 
 
+def check_that_it_is_new(path: str) -> None:
+    if os.path.lexists(path):
+        raise FileExistsError(errno.EEXIST, "it is there, and isn't replaced", path)
+
+
 @contextlib.contextmanager
 def new_file(path: str) -> Iterator[IO[bytes]]:
     """Makes a file that has its name once it is whole. Raises FileExistsError if anything has the name."""
-    folder, name = os.path.split(path)
-    begun = os.path.join(folder, f".{name[:_MOST_NAME]}-{os.getpid()}")
-    if os.path.lexists(path):
-        raise FileExistsError(errno.EEXIST, "it is there, and isn't replaced", path)
-    try:
-        file = open(begun, "xb")
-    except OSError as error:
-        raise OSError(error.errno, error.strerror, path) from error
-    try:
-        with file:
+    check_that_it_is_new(path)
+    begun = os.path.join(os.path.dirname(path), f".{NAME}-{secrets.token_hex(8)}")
+    with contextlib.ExitStack() as stack:
+        try:
+            with blocked():
+                file = open(begun, "xb")
+                stack.callback(remove, begun, file)
             yield file
             file.flush()
             os.fsync(file.fileno())
-        os.link(begun, path)  # which replaces nothing
-    finally:
+            give_name(begun, path)
+        except OSError as error:
+            if error.filename in (None, begun):
+                error.filename = path
+            raise
+        finally:
+            with blocked():
+                stack.close()
+
+
+def give_name(begun: str, path: str) -> None:
+    """Gives a file its name, and replaces nothing."""
+    try:
+        os.link(begun, path)
+    except FileExistsError:
+        check_that_it_is_new(path)
+        raise
+    except OSError:  # a file system without links, such as that of most USB sticks
+        with blocked():
+            os.close(os.open(path, os.O_WRONLY | os.O_CREAT | os.O_EXCL))
+            os.replace(begun, path)
+
+
+def remove(begun: str, file: IO[bytes]) -> None:
+    with contextlib.suppress(FileNotFoundError):
         os.remove(begun)
+    with contextlib.suppress(OSError):  # what couldn't be written isn't written again
+        file.close()
 
 
 def work(arguments: Optional[Sequence[str]], output: BinaryIO) -> int:
@@ -221,7 +270,8 @@ def work(arguments: Optional[Sequence[str]], output: BinaryIO) -> int:
     try:
         return fetch(given, output)
     except Refused as refused:
-        report(NAME, f"{printable(given.query)}: {printable(str(refused))}")
+        place = "" if refused.parameter is None else f" in {printable(refused.parameter)}"
+        report(NAME, f"{printable(given.query)}: the query is refused: {refused.name}{place} (see docs/QUERY.md)")
         return MISSED
     except Fault as fault:
         report(NAME, reason_of(fault))

@@ -10,7 +10,7 @@ from urllib.parse import quote_plus
 from .collection import Collection
 from .errors import Refused
 from .query import Capture
-from .record import Head, RecordStream
+from .record import Head, RecordStream, without_brackets
 from .stamps import stamp_of
 
 REVISIT = "warc/revisit"
@@ -59,7 +59,7 @@ def original_of(collection: Collection, head: Head) -> Optional[Capture]:
     It is one of the URL that the head refers to, or else of its own, with the digest and the time if the head has them, or else with
     the digest alone.
     """
-    url = _without_brackets(head.field("WARC-Refers-To-Target-URI") or head.field("WARC-Target-URI") or "")
+    url = without_brackets(head.field("WARC-Refers-To-Target-URI") or "") or head.url
     digest = _SHA1.sub("", head.field("WARC-Payload-Digest") or "", count=1)
     time = _NOT_DIGITS.sub("", head.field("WARC-Refers-To-Date") or "")[:14]
     if not url:
@@ -67,15 +67,11 @@ def original_of(collection: Collection, head: Head) -> Optional[Capture]:
     at = f"&from={time}&to={time}" if len(time) == 14 else ""
     same = f"&is=digest:{quote_plus(digest, errors='surrogateescape')}" if digest else ""
     asked = f"url={quote_plus(url, errors='surrogateescape')}&matchType=exact&isnot=mimetype:{REVISIT}&limit=1"
-    for conditions in filter(None, dict.fromkeys((at and at + same, same))):
-        for capture in collection.index.captures(asked + conditions):
-            return capture
+    with contextlib.suppress(Refused):  # as for a URL that is none
+        for conditions in filter(None, dict.fromkeys((at and at + same, same))):
+            for capture in collection.index.captures(asked + conditions):
+                return capture
     return None
-
-
-def _without_brackets(url: str) -> str:
-    """Returns a URL without the brackets that GNU Wget writes around it."""
-    return url[1:-1] if url.startswith("<") and url.endswith(">") else url
 
 
 @contextlib.contextmanager
@@ -86,8 +82,9 @@ def opened_page(collection: Collection, capture: Capture) -> Iterator[Optional[R
     """
     with contextlib.ExitStack() as stack:
         record = stack.enter_context(collection.stream(capture))
-        if record.head.kind == "revisit":
-            original = original_of(collection, record.head)
-            yield None if original is None else stack.enter_context(collection.stream(original))
-        else:
+        if record.head.kind != "revisit":
             yield record
+            return
+        original = original_of(collection, record.head)
+        page = None if original is None else stack.enter_context(collection.stream(original))
+        yield page if page and page.head.kind != "revisit" else None  # indexes may name revisits otherwise

@@ -25,6 +25,11 @@ Fields = tuple[tuple[str, str], ...]
 class WithFields:
     fields: Fields
 
+    @property
+    def headers(self) -> Fields:
+        """The same as `fields`."""
+        return self.fields
+
     def field(self, name: str) -> Optional[str]:
         """Returns the value of the first field of a name, in any case, or None."""
         wanted = name.lower()

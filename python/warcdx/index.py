@@ -89,6 +89,7 @@ class Index:
             _check_that_it_opens(name)
         self.seconds = seconds
         self.most = most
+        self._names = names
         self._processes = processes
         self._is_closed = False
         # The last one that was used is used next, so that no more are started than are needed. After
@@ -220,6 +221,12 @@ class Index:
         """Yields all captures."""
         return self.captures()
 
+    def __contains__(self, url: object) -> bool:
+        """Returns whether there is a capture of a URL."""
+        if not isinstance(url, str):
+            raise TypeError(f"`in` takes a URL, and not {url!r:.60}")
+        return self.count(url, match="exact", limit=1) > 0
+
     def text(self, query: str) -> bytes:
         """Returns a page as `warcdx query` writes it."""
         line = one_line(query)
@@ -239,6 +246,9 @@ class Index:
         with self._turn(asked) as serve:
             encoded = line.encode(errors="surrogateescape")
             yield from serve.stream(encoded, asked.has("output", "json"), self.seconds)
+
+    def __repr__(self) -> str:
+        return f"Index({self._names!r:.200})"
 
     def close(self) -> None:
         """Ends the processes, after the queries that are being answered. A second call does nothing."""
@@ -262,6 +272,8 @@ class Index:
 
         If no query can have that key, the page is read again, longer, and what follows in it is a further page.
         """
+        if size < 1:
+            raise ValueError("page_size has to be 1 or more")
         query, left = asked
         length, given = size, 0  # captures of the page, and how many of these were yielded
         while True:
@@ -323,5 +335,5 @@ def _fields_of(fields: Union[str, Sequence[str]]) -> tuple[str, ...]:
 def _check_that_it_opens(path: str) -> None:
     try:
         os.close(os.open(path, os.O_RDONLY | os.O_NONBLOCK | os.O_CLOEXEC))
-    except OSError as error:
-        raise cannot_open(path, error.errno) from error
+    except (OSError, ValueError) as error:  # ValueError: such as a path with a NUL
+        raise cannot_open(path, getattr(error, "errno", None)) from error

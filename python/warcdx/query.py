@@ -158,5 +158,8 @@ def encoded(name: str, value: Value) -> list[str]:
     elif isinstance(value, (int, str)):
         values = (str(value),)
     else:
-        values = value or ()
+        values = () if value is None else tuple(value) if isinstance(value, Iterable) else (value,)
+    for each in values:
+        if not isinstance(each, str):
+            raise TypeError(f"{name} has to be a text, or a list of texts, and not {each!r:.60}")
     return [f"{quote_plus(name)}={quote_plus(each, errors='surrogateescape')}" for each in values]

@@ -44,6 +44,12 @@ class Head(WithFields):
         return self.kind
 
     @property
+    def url(self) -> Optional[str]:
+        """WARC-Target-URI, without the brackets that GNU Wget writes around it, or None."""
+        url = self.field("WARC-Target-URI")
+        return None if url is None else without_brackets(url)
+
+    @property
     def date(self) -> Optional[datetime.datetime]:
         """WARC-Date in UTC, to the microsecond, or None if that isn't a date to the second."""
         found = _DATE.fullmatch(self.field("WARC-Date") or "")
@@ -71,6 +77,9 @@ class Record(Head):
     block: bytes
     offset: Optional[int] = field(default=None, compare=False)
     length: Optional[int] = field(default=None, compare=False)
+
+    def __repr__(self) -> str:
+        return f"Record({self.fields!r}, <{len(self.block):,} bytes>)"
 
     @classmethod
     def read(cls, record: bytes, offset: Optional[int] = None, length: Optional[int] = None) -> "Record":
@@ -104,7 +113,8 @@ class Record(Head):
 class RecordStream:
     """A record that is read as it is taken, so that one of any length takes bounded memory.
 
-    One of `whole`, `block` and `payload` is called, and once.
+    One of `whole`, `block`, `payload` and `stored_payload` is called, and once. Before `whole` and `block`, `http` isn't
+    asked for, as that reads the beginning. A further call raises ValueError.
     """
 
     def __init__(self, head: bytes, rest: IO[bytes]) -> None:
@@ -113,6 +123,7 @@ class RecordStream:
         self.size = len(head) + len(CLOSING) + self.length + len(CLOSING)  # of the record, in bytes
         self._text = head
         self._rest = rest
+        self._is_taken = False
 
     @classmethod
     def read(cls, output: IO[bytes]) -> Optional["RecordStream"]:
@@ -129,12 +140,22 @@ class RecordStream:
 
     def whole(self) -> Iterator[bytes]:
         """Yields the record as it is stored, in pieces. They end in it if the archive does."""
+        self._take()
         yield self._text + CLOSING
         while piece := self._rest.read(_PIECE):
             yield piece
 
     def block(self) -> Iterator[bytes]:
         """Yields the block in pieces. They have fewer bytes than `length` if the archive ends in them."""
+        self._take()
+        yield from self._pieces()
+
+    def _take(self, message: Optional[Message] = None) -> None:
+        if self._is_taken or message is None and "_message" in self.__dict__:
+            raise ValueError("a RecordStream is read once; open the record again")
+        self._is_taken = True
+
+    def _pieces(self) -> Iterator[bytes]:
         left = self.length
         while left and (piece := self._rest.read(min(left, _PIECE))):
             left -= len(piece)
@@ -153,14 +174,16 @@ class RecordStream:
 
     @functools.cached_property
     def _message(self) -> Message:
-        return Message(self.block(), self.head.is_http)
+        return Message(self._pieces(), self.head.is_http)
 
     def payload(self, limits: Limits = UNLIMITED) -> Iterator[bytes]:
         """Yields the body without its codings, as `payload` returns it. One beyond the limits is Unreadable."""
+        self._take(self._message)
         return _said_to_be_cut(self.head, self._message.payload(limits))
 
     def stored_payload(self, limits: Limits = UNLIMITED) -> Iterator[bytes]:
         """Yields the body without its transfer codings only, such as chunks. Its content codings stay."""
+        self._take(self._message)
         return _said_to_be_cut(self.head, self._message.stored_payload(limits))
 
     def has_content_codings(self, limits: Limits = UNLIMITED) -> bool:
@@ -174,6 +197,11 @@ class RecordStream:
     def stored_otherwise(self) -> tuple[str, ...]:
         """The codings that the head names and the body doesn't have, once its first piece was read."""
         return self._message.stored_otherwise
+
+
+def without_brackets(url: str) -> str:
+    """Returns a URL without the brackets that GNU Wget writes around it."""
+    return url[1:-1] if url.startswith("<") and url.endswith(">") else url
 
 
 def fields_named(head: bytes, names: "re.Pattern[bytes]") -> Iterator[tuple[str, str]]:

@@ -23,6 +23,8 @@ class Unknown(Refused):
 class RepeatedParameter(Refused):
     """A parameter that may occur once is given twice."""
 
+    advice = "output, fl and showResumeKey are given by all calls but text and stream"
+
 
 class BadMatch(Refused):
     """A match type isn't one of the four."""
