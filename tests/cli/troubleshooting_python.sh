@@ -20,6 +20,7 @@ chmod 755 killed
 shows "a program that is killed" "warcdx has ended with signal 9" run_python verify --warcdx ./killed response.warc
 
 row "\`a pipe can be read only once, by list, verify or index; save it to a file\`"
+row "\`the query is refused\`"
 row "\`no index has a capture of it\`"
 "$program" index "$root/samples/response.warc" > response.cdxj
 shows "no capture" "no index has a capture of it" run_python fetch --warcdx "$program" --index response.cdxj http://example.com/none
