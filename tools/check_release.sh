@@ -176,6 +176,7 @@ Only in tar/share/doc/warcdx/python: bin
 Only in tar/share/doc/warcdx/python: build_backend.py
 Only in tar/share/doc/warcdx/python: pyproject.toml
 Only in tar/share/doc/warcdx/python: warcdx
+Only in tar/share/doc/warcdx/python: warcdx_start.py
 Only in tar/share/doc/warcdx: SHA256SUMS
 Only in tar/share/zsh: site-functions
 END

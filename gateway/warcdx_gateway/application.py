@@ -51,6 +51,7 @@ HEALTH_SECONDS = 5
 LOOKS = 0.25  # seconds between two looks at the words of the master
 TRIES = 4  # to have the files of the master, in a look
 AGAIN = 0.05  # seconds after which they are tried again
+PATIENCE = 1.0  # seconds until a client that has closed its side has left
 MOST_WHOLE = 1 << 16  # bytes of an answer that is made before it is sent
 
 Handler = Callable[..., WSGIApplication]  # of the gateway, a request and the values of its path
@@ -130,12 +131,14 @@ class Gateway:
     def source(self, collection: Collection, client: Optional[socket.socket] = None) -> Source:
         """Returns what asks the indexes for an answer that may be wide or costly.
 
-        It raises ConnectionResetError if the client has closed the connection, or its side of it.
+        It raises ConnectionResetError if the client has closed the connection. One that has closed
+        its own side looks the same, and waits for its answer. So a short one isn't broken off.
         """
+        patience = time.monotonic() + PATIENCE
 
         def beat() -> None:
             self.beat()
-            if client is not None:
+            if client is not None and time.monotonic() > patience:
                 with contextlib.suppress(BlockingIOError):
                     if not client.recv(1, socket.MSG_PEEK | socket.MSG_DONTWAIT):
                         raise ConnectionResetError(errno.ECONNRESET, "the client has left")

@@ -13,11 +13,11 @@ shows "no program" "no such program" run_python verify --warcdx nosuch response.
 shows "another program" "not the program warcdx" run_python verify --warcdx /bin/true response.warc
 shows "an old program" "is needed" run_python verify --warcdx ./old response.warc
 
-row "\`warcdx has ended with\`"
+row "\`warcdx has ended with\`, \`warcdx-gz has ended with\`"
 # shellcheck disable=SC2016 # the other shell expands it
 printf '#!/bin/sh\n[ "$1" != --help ] || exec "%s" "$@"\nkill -9 $$\n' "$program" > killed
 chmod 755 killed
-shows "a program that is killed" "warcdx has ended with signal 9" run_python verify --warcdx ./killed response.warc
+shows "a program that is killed" "warcdx has ended with signal 9" run_python verify --warcdx ./killed "$root/samples/damaged.warc"
 
 row "\`a pipe can be read only once, by list, verify or index; save it to a file\`"
 row "\`the query is refused\`"
@@ -28,6 +28,9 @@ row "\`it is a revisit, and no index has its original\`"
 row "\`it is there, and isn't replaced\`"
 : > there
 shows "a file" "it is there, and isn't replaced" run_python fetch --warcdx "$program" --index response.cdxj --archives "$root/samples" -o there http://example.com/
+row "\`isn't a file of --resume, and stays as it is\`, \`is damaged, and stays as it is; remove it to verify all archives again\`"
+echo other > notes
+shows "a file of another program" "isn't a file of --resume, and stays as it is" run_python verify --warcdx "$program" --resume notes "$root/samples/wget.warc"
 row "\`no digest was compared\`"
 shows "an archive without digests" "no digest was compared" run_python verify --warcdx "$program" response.warc
 

@@ -66,7 +66,9 @@ def scripts_of(program: pathlib.Path) -> tuple[Script, ...]:
     return (
         Script("warcdx-verify", verify, (*of_warcdx, "digests.warc.gz"), "digests.warc.gz"),
         Script("warcdx-verify of a plain archive", verify, (*of_warcdx, "digests.warc"), "digests.warc"),
-        Script("warcdx-verify of two at a time", verify, (*of_warcdx, "--jobs", "2", "digests.warc.gz", "digests.warc")),
+        Script(
+            "warcdx-verify of two at a time", verify, (*of_warcdx, "--jobs", "2", "digests.warc.gz", "digests.warc"), most_lines=2
+        ),
         Script("warcdx-fetch", fetch, (*of_warcdx, "--index", "page.cdxj", "http://example.com/")),
         Script("warcdx-fetch of a record", fetch, (*of_warcdx, "--index", "page.cdxj", "--record", "http://example.com/")),
         Script("warcdx-cdx to", cdx, (*of_warcdx, "to", "a.cdxj"), "a.cdxj"),
