@@ -18,7 +18,9 @@ def start(module: str) -> NoReturn:
     """Runs the command of a module, and exits with its status."""
     failure = ""
     try:
-        bytes(MODULES)  # which are free again: if memory ended while a module is loaded, Python could try that for ever
+        # They are free again: if memory ended while a module is loaded, Python could try that for ever. In one piece they
+        # would let the system's library keep what long lines take.
+        bytes(MODULES // 2), bytes(MODULES // 2)
         main = load(module).main
     except (ImportError, OSError) as error:
         failure = str(error)
