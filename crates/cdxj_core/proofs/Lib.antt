@@ -9,5 +9,5 @@ pub mod FoundLines
 pub mod LineCuts
 pub mod LineJoined
 pub mod ObjectLines
-pub mod UnescapedAscii
+pub mod PrintableAscii
 pub mod SortedLines

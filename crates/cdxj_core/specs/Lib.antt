@@ -12,7 +12,8 @@ pub use Rattle.cdxj_objects.specs.MemberValues
 pub use Rattle.cdxj_objects.specs.FoundMembers
 pub use Rattle.cdxj_objects.specs.FoundViews
 pub use Rattle.cdxj_objects.specs.Plain
-pub use Rattle.cdxj_objects.specs.PlainPlaces
+pub use Rattle.cdxj_objects.specs.PlacedMembers
+pub use Rattle.cdxj_objects.specs.Spans
 pub use Rattle.cdxj_objects.specs.Spelling
 -- what contracts see of places
 pub use Rattle.cdxj_places.specs.Bytes
@@ -24,3 +25,4 @@ pub use Rattle.cdxj_places.specs.Rising
 pub use Rattle.cdxj_places.specs.TextLines
 -- what contracts see of keys
 pub use Rattle.cdxj_keys.specs.Key
+pub mod ReadLine

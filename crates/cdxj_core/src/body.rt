@@ -1,13 +1,13 @@
 //! The body of a line: the line without its line feed.
 ghost use Rattle.std.specs.Prelude.{◌≡◌, ◌<◌, length, true, IfSome, IsUtf8};
 ghost use Rattle.std.specs.List.{list_all};
-ghost use Rattle.cdxj_objects.specs.Plain.{is_unescaped, is_unescaped_ascii};
+ghost use Rattle.cdxj_objects.specs.Plain.{is_printable, is_printable_ascii};
 ghost use Rattle.cdxj_core.specs.declared.limit.TheConstants.{LINE_LIMIT};
 ghost use Rattle.cdxj_core.specs.Lines.{body_of, has_no_feed};
 
 use crate::limit::LINE_LIMIT;
-use crate::unescaped::is_unescaped;
-use cdxj_objects::unescaped_length;
+use crate::printable::is_printable;
+use cdxj_objects::printable_length;
 use memchr::memchr;
 
 /// Returns the line without a line feed at its end.
@@ -27,47 +27,47 @@ pub(crate) fn has_no_feed(text: &[u8]) -> bool
     memchr(b'\n', text).is_none()
 }
 
-/// Returns the body as a text, if it is UTF-8 without controls and backslashes.
+/// Returns the body as a text, if it is UTF-8 without controls.
 #[cold]
-fn unescaped_utf8(body: &[u8]) -> Option<&str>
+fn printable_utf8(body: &[u8]) -> Option<&str>
     ensures value { IfSome result (λ text. text.now ≡ body.now) }
     ensures utf8 { IfSome result (λ text. IsUtf8 text.now) }
-    ensures unescaped { IfSome result (λ text. list_all is_unescaped text.now ≡ true) }
+    ensures printable { IfSome result (λ text. list_all is_printable text.now ≡ true) }
 {
-    if is_unescaped(body) {
+    if is_printable(body) {
         str::from_utf8(body).ok()
     } else {
         None
     }
 }
 
-/// Returns a body of ASCII without controls and backslashes as a text.
+/// Returns a body of ASCII without controls as a text.
 #[inline(always)]
-#[tactic(auto, using(crate::proofs::UnescapedAscii::ascii_rules))]
+#[tactic(auto, using(crate::proofs::PrintableAscii::ascii_rules))]
 pub(crate) fn ascii_text(body: &[u8]) -> &str
-    requires { list_all is_unescaped_ascii body.now ≡ true }
+    requires { list_all is_printable_ascii body.now ≡ true }
     ensures value { result.now ≡ body.now }
     ensures utf8 { IsUtf8 result.now }
-    ensures unescaped { list_all is_unescaped result.now ≡ true }
+    ensures printable { list_all is_printable result.now ≡ true }
 {
     unsafe { str::from_utf8_unchecked(body) }
 }
 
 /// Returns the body as a text, if it is within the limit and consists of characters other than
-/// controls and backslashes.
+/// controls.
 #[inline(always)]
-pub(crate) fn unescaped_text(body: &[u8]) -> Option<&str>
+pub(crate) fn printable_text(body: &[u8]) -> Option<&str>
     ensures value { IfSome result (λ text. text.now ≡ body.now) }
     ensures short { IfSome result (λ text. length text.now < LINE_LIMIT) }
     ensures utf8 { IfSome result (λ text. IsUtf8 text.now) }
-    ensures unescaped { IfSome result (λ text. list_all is_unescaped text.now ≡ true) }
+    ensures printable { IfSome result (λ text. list_all is_printable text.now ≡ true) }
 {
     if body.len() >= LINE_LIMIT {
         return None;
     }
-    if unescaped_length(body) == body.len() {
+    if printable_length(body) == body.len() {
         Some(ascii_text(body))
     } else {
-        unescaped_utf8(body)
+        printable_utf8(body)
     }
 }

@@ -8,12 +8,13 @@ mod body;
 mod entry;
 mod fault;
 mod field;
+mod front_pair;
 mod laws;
 mod limit;
 mod line;
 mod line_ref;
+mod printable;
 mod spans;
-mod unescaped;
 mod writing;
 
 pub use crate::entry::{Entry, KeylessEntry};
@@ -31,7 +32,7 @@ pub use crate::writing::{write_entry, write_line, write_plain_entry};
 pub use cdxj_keys::{
     KeyFault, host_key, host_key_begins_key, parsed_url_key, url_key, url_key_with_room,
 };
-pub use cdxj_objects::{plain_utf8, push_quoted, unescaped_length};
+pub use cdxj_objects::{plain_utf8, printable_length, push_quoted};
 pub use cdxj_places::{
     HasPlace, LEAST_PAIR, OwnedPlace, Pair, Place, PlaceFault, in_order, is_key, is_stamp,
     longer_text_has_the_pair, pairs_are_ordered, place_is_good, places_are_ordered, read_offset,

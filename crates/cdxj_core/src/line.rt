@@ -1,12 +1,12 @@
 //! Lines that own their bytes.
-ghost use Rattle.std.specs.Prelude.{◌≡◌, ◌≤◌, length, string_bytes, OnOk};
+ghost use Rattle.std.specs.Prelude.{◌≡◌, ◌<◌, ◌≤◌, length, string_bytes, OnOk};
 ghost use Rattle.std.specs.String.{string_capacity};
 ghost use Rattle.cdxj_core.specs.declared.limit.TheConstants.{LINE_LIMIT};
 
 use crate::body::{body_of, has_no_feed};
 use crate::fault::LineFault;
 use crate::limit::LINE_LIMIT;
-use crate::line_ref::LineRef;
+use crate::line_ref::{LineRef, Read};
 use crate::spans::Spans;
 use cdxj_objects::{FoundMembers, spelled};
 use cdxj_places::{HasPlace, Pair, Place, cut_first, is_key, is_stamp};
@@ -46,12 +46,20 @@ fn fill(buffer: &mut String, text: &str)
     let _ = buffer.push_str(text);
 }
 
+fn new_scratch(alloc: Global) -> Result<Box<Scratch>, AllocError> {
+    match Box::new(alloc, Scratch::new(alloc)) {
+        Ok(scratch) => Ok(scratch),
+        Err(_) => Err(AllocError),
+    }
+}
+
 impl Line {
     ghost use Rattle.std.specs.Prelude.{true, IfOk, IfSome, OnErr, MatchResult, Ok, Err, Some};
     ghost use Rattle.std.specs.List.{list_all};
-    ghost use Rattle.cdxj_objects.specs.Plain.{is_unescaped_ascii};
+    ghost use Rattle.cdxj_objects.specs.Plain.{is_printable_ascii};
     ghost use Rattle.cdxj_core.specs.Lines.{body_of};
     ghost use Rattle.cdxj_core.specs.Members.{member_place, line_entry, IsLineReading};
+    ghost use Rattle.cdxj_core.specs.ReadLine.{member_of};
     ghost use Rattle.cdxj_places.specs.PlaceViews.{place_view};
 
     /// Reads a line, with or without its line feed: a key, a space, a stamp, a space and a JSON
@@ -66,29 +74,41 @@ impl Line {
     {
         match LineRef::plain(line) {
             Some(plain) => Ok(Line::new(alloc, &plain)?),
-            None => Line::read_json(alloc, line),
+            None => Line::read_json(alloc, line, &mut None),
         }
     }
 
-    /// Reads a line that has any JSON object.
+    /// Reads a line that has any JSON object, with the scratch of the JSON reader if there is one.
+    /// Otherwise one is made, and stays there for the next line.
     #[cold]
     #[inline(never)]
-    fn read_json(alloc: Global, line: &[u8]) -> Result<Line, LineFault>
+    fn read_json(
+        alloc: Global,
+        line: &[u8],
+        kept: &mut Option<Box<Scratch>>,
+    ) -> Result<Line, LineFault>
         ensures { IsLineReading LINE_LIMIT line.now result }
     {
-        Line::read_with(alloc, line, &mut Scratch::new(alloc))
+        if body_of(line).len() >= LINE_LIMIT {
+            return Err(LineFault::LineTooLong);
+        }
+        let mut scratch = match kept.take() {
+            Some(scratch) => scratch,
+            None => new_scratch(alloc)?,
+        };
+        let read = Line::read_with(alloc, line, &mut scratch);
+        *kept = Some(scratch);
+        read
     }
 
-    // The same, with room for the parser: it is large, and stands in a function with one way out.
+    /// Reads a line that isn't too long.
     #[inline(never)]
     #[tactic(auto, unfolding(crate::specs::Lines::line_in))]
     fn read_with(alloc: Global, line: &[u8], scratch: &mut Scratch) -> Result<Line, LineFault>
+        requires { length (body_of line.now) < LINE_LIMIT }
         ensures { IsLineReading LINE_LIMIT line.now result }
     {
         let body = body_of(line);
-        if body.len() >= LINE_LIMIT {
-            return Err(LineFault::LineTooLong);
-        }
         let Ok(body) = str::from_utf8(body) else {
             return Err(LineFault::BadLine);
         };
@@ -113,7 +133,7 @@ impl Line {
         let Some(offset) = found.offset() else {
             return Err(LineFault::BadLine);
         };
-        let (text, fronts) = spelled(alloc, body, found, offset, filename)?;
+        let (text, texts) = spelled(alloc, body, found, offset, filename)?;
         Ok(Line {
             alloc,
             text,
@@ -122,7 +142,7 @@ impl Line {
                 key: key.len(),
                 stamp,
                 offset,
-                fronts,
+                texts,
             },
         })
     }
@@ -140,42 +160,78 @@ impl Line {
     }
 
     /// Reads another line into this line's buffer. If the buffer is large enough, a plain line
-    /// takes no memory. Errors are those of `read`; after an error this line is unchanged.
-    pub fn refill(&mut self, line: &[u8]) -> Result<(), LineFault>
+    /// takes no memory. Any other line needs a scratch for the JSON reader: it is made when the
+    /// first such line comes, and is kept there for the next. Errors are those of `read`; after an
+    /// error this line is unchanged.
+    pub fn refill(
+        &mut self,
+        line: &[u8],
+        scratch: &mut Option<Box<Scratch>>,
+    ) -> Result<(), LineFault>
         ensures { MatchResult result (λ _. IsLineReading LINE_LIMIT line.now (Ok self.new))
             (λ fault. IsLineReading LINE_LIMIT line.now (Err fault) × (self.new ≡ self.old)) }
     {
-        self.refill_from(line, LineRef::plain(line))
+        self.refill_from(line, LineRef::of_line(line), scratch)
     }
 
-    /// The same for a line that consists of characters of ASCII other than controls and
-    /// backslashes, but for its line feed.
-    pub fn refill_unescaped(&mut self, line: &[u8]) -> Result<(), LineFault>
-        requires { list_all is_unescaped_ascii (body_of line.now) ≡ true }
+    /// The same for a line that consists of characters of ASCII other than controls, but for its
+    /// line feed.
+    pub fn refill_printable(
+        &mut self,
+        line: &[u8],
+        scratch: &mut Option<Box<Scratch>>,
+    ) -> Result<(), LineFault>
+        requires { list_all is_printable_ascii (body_of line.now) ≡ true }
         ensures { MatchResult result (λ _. IsLineReading LINE_LIMIT line.now (Ok self.new))
             (λ fault. IsLineReading LINE_LIMIT line.now (Err fault) × (self.new ≡ self.old)) }
     {
-        self.refill_from(line, LineRef::plain_unescaped(line))
+        self.refill_from(line, LineRef::of_printable(line), scratch)
     }
 
-    /// The same for a line that was read as a plain one, or declined.
+    /// The same for a line that was read where it stands, or declined.
     #[inline(always)]
     #[tactic(auto, using(crate::proofs::MemberLemmas::entry_is_short))]
-    fn refill_from(&mut self, line: &[u8], plain: Option<LineRef<'_>>) -> Result<(), LineFault>
-        requires { IfSome plain (λ found. line_entry LINE_LIMIT line.now ≡ Some found) }
+    fn refill_from(
+        &mut self,
+        line: &[u8],
+        read: Option<Read<'_>>,
+        scratch: &mut Option<Box<Scratch>>,
+    ) -> Result<(), LineFault>
+        requires { IfSome read (λ read. line_entry LINE_LIMIT line.now ≡ Some (member_of read)) }
         ensures { MatchResult result (λ _. IsLineReading LINE_LIMIT line.now (Ok self.new))
             (λ fault. IsLineReading LINE_LIMIT line.now (Err fault) × (self.new ≡ self.old)) }
     {
-        match plain {
-            Some(plain) => {
-                self.keep(&plain)?;
+        match read {
+            Some(read) => {
+                self.keep_read(read)?;
                 Ok(())
             }
             None => {
-                *self = Line::read_json(self.alloc, line)?;
+                *self = Line::read_json(self.alloc, line, scratch)?;
                 Ok(())
             }
         }
+    }
+
+    #[inline(always)]
+    fn keep_read(&mut self, read: Read<'_>) -> Result<(), AllocError>
+        ensures ok { OnOk result (self.new ≡ member_of read.entry) }
+        ensures err { OnErr result (self.new ≡ self.old) }
+    {
+        match read {
+            Read::Written(line) => self.keep(&line),
+            Read::Walked(line) => self.keep_walked(line),
+        }
+    }
+
+    /// The same apart, so that lines as they are written keep their values in registers.
+    #[cold]
+    #[inline(never)]
+    fn keep_walked(&mut self, line: LineRef<'_>) -> Result<(), AllocError>
+        ensures ok { OnOk result (self.new ≡ line.entry) }
+        ensures err { OnErr result (self.new ≡ self.old) }
+    {
+        self.keep(&line)
     }
 
     #[inline(always)]

@@ -2,22 +2,30 @@
 ghost use Rattle.std.specs.Prelude.{◌≡◌, IfSome, true};
 ghost use Rattle.cdxj_core.specs.declared.limit.TheConstants.{LINE_LIMIT};
 
-use crate::body::{ascii_text, body_of, unescaped_text};
+use crate::body::{ascii_text, body_of, printable_text};
 use crate::field::Field;
+use crate::front_pair::{FrontPair, front_pair};
 use crate::limit::LINE_LIMIT;
 use crate::spans::{Spans, TO_OBJECT, TO_STAMP, TO_STAMP_END};
-use cdxj_objects::{Members, has_stamp, or_missing, place_of_either, plain_members, texts_at};
+use cdxj_objects::{
+    Members, Placed, PlacedMembers, or_missing, place_of_either, placed_members, texts_at,
+};
 use cdxj_places::{HasPlace, Pair, Place};
 use std::cmp::Ordering;
 use std::marker::Model;
-
-const DELETE: u8 = 0x7f;
 
 /// A line of an index that was read, with all its values. Its text is borrowed.
 #[derive(Debug, Drop)]
 pub struct LineRef<'a> {
     pub(crate) text: &'a str,
     pub(crate) spans: Spans,
+}
+
+/// A line that was read where it stands: as it is written, or in any other spelling.
+#[derive(Drop)]
+pub(crate) enum Read<'a> {
+    Written(LineRef<'a>),
+    Walked(LineRef<'a>),
 }
 
 impl<'a> Model for LineRef<'a> {
@@ -35,31 +43,45 @@ impl<'a> Model for LineRef<'a> {
 }
 
 impl<'a> LineRef<'a> {
-    ghost use Rattle.std.specs.Prelude.{◌<◌, length, Some};
+    ghost use Rattle.std.specs.Prelude.{◌<◌, ◌+◌, length, Some};
     ghost use Rattle.std.specs.List.{list_all};
-    ghost use Rattle.cdxj_objects.specs.Plain.{is_unescaped, is_unescaped_ascii};
+    ghost use Rattle.cdxj_objects.specs.Plain.{is_printable, is_printable_ascii};
+    ghost use Rattle.cdxj_core.specs.KeptLine.{IsEntryOf, IsFrontPair};
+    ghost use Rattle.cdxj_core.specs.ReadLine.{member_of};
     ghost use Rattle.json.specs.Run.{is_plain};
     ghost use Rattle.cdxj_places.specs.PlaceViews.{place_view};
     ghost use Rattle.cdxj_core.specs.declared.field.Field.{Field};
+    ghost use Rattle.cdxj_objects.specs.PlacedMembers.{ArePlacedMembers};
     ghost use Rattle.cdxj_objects.specs.Plain.{values_of_texts};
     ghost use Rattle.cdxj_objects.specs.Texts.{borrowed_view};
     ghost use Rattle.cdxj_core.specs.Lines.{body_of, field_value, texts_in};
     ghost use Rattle.cdxj_core.specs.Members.{member_place, line_entry};
 
-    /// Reads a plain line where it stands, with or without its line feed. It may decline any line,
-    /// which [`Line::read`](crate::Line::read) reads then, and takes no memory.
+    /// Reads a line where it stands, with or without its line feed, in any spelling. It may decline
+    /// any line, which [`Line::read`](crate::Line::read) reads then, and takes no memory.
     #[inline(always)]
     pub fn plain(line: &'a [u8]) -> Option<LineRef<'a>>
         ensures { IfSome result (λ found. line_entry LINE_LIMIT line.now ≡ Some found) }
     {
-        LineRef::of_text(unescaped_text(body_of(line))?)
+        match LineRef::of_line(line)? {
+            Read::Written(found) => Some(found),
+            Read::Walked(found) => Some(found),
+        }
     }
 
-    /// The same for a line of ASCII without controls and backslashes.
+    /// The same, with how the line is spelled.
     #[inline(always)]
-    pub(crate) fn plain_unescaped(line: &'a [u8]) -> Option<LineRef<'a>>
-        requires { list_all is_unescaped_ascii (body_of line.now) ≡ true }
-        ensures { IfSome result (λ found. line_entry LINE_LIMIT line.now ≡ Some found) }
+    pub(crate) fn of_line(line: &'a [u8]) -> Option<Read<'a>>
+        ensures { IfSome result (λ read. line_entry LINE_LIMIT line.now ≡ Some (member_of read)) }
+    {
+        LineRef::of_text(printable_text(body_of(line))?)
+    }
+
+    /// The same for a line of ASCII without controls.
+    #[inline(always)]
+    pub(crate) fn of_printable(line: &'a [u8]) -> Option<Read<'a>>
+        requires { list_all is_printable_ascii (body_of line.now) ≡ true }
+        ensures { IfSome result (λ read. line_entry LINE_LIMIT line.now ≡ Some (member_of read)) }
     {
         let body = body_of(line);
         if body.len() >= LINE_LIMIT {
@@ -68,33 +90,42 @@ impl<'a> LineRef<'a> {
         LineRef::of_text(ascii_text(body))
     }
 
-    /// Reads a plain line without its line feed, in which no byte is a control or a backslash. It
-    /// may decline any line.
+    /// Reads the body of a line.
     #[inline(always)]
-    pub(crate) fn of_text(text: &'a str) -> Option<LineRef<'a>>
+    #[tactic(auto, using(crate::proofs::KeptLemmas::front_entry))]
+    fn of_text(text: &'a str) -> Option<Read<'a>>
         requires short { length text.now < LINE_LIMIT }
-        requires unescaped { list_all is_unescaped text.now ≡ true }
-        ensures { IfSome result (λ found. line_entry LINE_LIMIT text.now ≡ Some found) }
+        requires printable { list_all is_printable text.now ≡ true }
+        ensures { IfSome result (λ read. IsEntryOf LINE_LIMIT text.now (member_of read)) }
     {
-        let bytes = text.as_bytes();
-        let key = place_of_either(bytes, 0, b' ', DELETE);
-        if key == 0 || !has_stamp(bytes, key + TO_STAMP) || bytes[key] != b' ' {
-            return None;
+        let pair = front_pair(text)?;
+        match placed_members(text, pair.key + TO_OBJECT)? {
+            Placed::Written(members) => {
+                Some(Read::Written(LineRef::of_parts(text, pair, members)))
+            }
+            Placed::Walked(members) => Some(Read::Walked(LineRef::of_parts(text, pair, members))),
         }
-        let Ok(stamp) = <[u8; 14]>::try_from(&bytes[key + TO_STAMP..key + TO_STAMP_END]) else {
-            return None;
-        };
-        let members = plain_members(bytes, key + TO_OBJECT)?;
-        Some(LineRef {
+    }
+
+    #[inline(always)]
+    fn of_parts(text: &'a str, pair: FrontPair, members: PlacedMembers) -> LineRef<'a>
+        requires short { length text.now < LINE_LIMIT }
+        requires printable { list_all is_printable text.now ≡ true }
+        requires pair { IsFrontPair text.now pair }
+        requires members { ArePlacedMembers text.now (pair.key + TO_OBJECT) members }
+        ensures { line_entry LINE_LIMIT text.now ≡ Some result }
+    {
+        let FrontPair { key, stamp } = pair;
+        LineRef {
             text,
             spans: Spans {
                 size: text.len(),
                 key,
                 stamp,
                 offset: members.offset,
-                fronts: members.fronts,
+                texts: members.texts,
             },
-        })
+        }
     }
 
     /// Returns the line without its line feed, from which the values were read.
@@ -117,7 +148,7 @@ impl<'a> LineRef<'a> {
     fn texts(&self) -> Members<&'a str>
         ensures { values_of_texts (borrowed_view result) ≡ texts_in self.now.values }
     {
-        texts_at(self.text, &self.spans.fronts)
+        texts_at(self.text, &self.spans.texts)
     }
 
     /// Returns the key and the stamp.

@@ -1,5 +1,5 @@
 //! Where the parts of a line stand in its text.
-use cdxj_objects::Members;
+use cdxj_objects::{Members, Span};
 
 /// The space before the stamp.
 pub(crate) const TO_STAMP: usize = 1;
@@ -10,8 +10,8 @@ pub(crate) const TO_OBJECT: usize = TO_STAMP_END + 1;
 
 /// Where the parts of a line stand in its text, as offsets in bytes from the text's start.
 ///
-/// The text of a plain line is the line. Any other line is followed by a plain object that has the
-/// texts of its members, without escapes.
+/// The texts of a line's members stand in the line, if none of them has escapes there. Otherwise the
+/// line is followed by a plain object that has them without escapes.
 #[derive(Clone, Copy, Debug, Drop)]
 pub(crate) struct Spans {
     /// The end of the line, without its line feed.
@@ -20,6 +20,5 @@ pub(crate) struct Spans {
     pub key: usize,
     pub stamp: [u8; 14],
     pub offset: u64,
-    /// Where what stands before each member's text begins.
-    pub fronts: Members<usize>,
+    pub texts: Members<Span>,
 }

@@ -21,7 +21,7 @@ use Rattle.cdxj_objects.specs.ObjectMembers.{map_members, names, with_named, zip
 
 -- ---- a member that is put
 
-found_put : (k : List ℕ) (d : Data) (ms : JsonMembers) → found_of (put k d ms) ≡ with_named k
+pub found_put : (k : List ℕ) (d : Data) (ms : JsonMembers) → found_of (put k d ms) ≡ with_named k
     (Some (member_data d)) (found_of ms)
 found_put k d ms = grind (arith, bytes_eq-Decides, get_member-put, get_member-put_other)
 
@@ -30,7 +30,7 @@ named_if f true x y = refl
 named_if f false x y = refl
 
 -- a value that is put at a name, seen by a function
-named_seen : {A B : Type 0} (f : A → B) (name : List ℕ) (a : A) (m : Members A) → map_members f (with_named name a m)
+pub named_seen : {A B : Type 0} (f : A → B) (name : List ℕ) (a : A) (m : Members A) → map_members f (with_named name a m)
     ≡ with_named name (f a) (map_members f m)
 named_seen f name a m = λ i. zip_members (λ its old. named_if f (bytes_eq name its) a old i) names m
 

@@ -10,7 +10,7 @@ use Rattle.std.proofs.lemmas.List.Folds.{prefix_len-append}
 use Rattle.std.proofs.lemmas.List.Sums.{prefix_len-le-length}
 use Rattle.std.proofs.lemmas.Simd.{chunk-drop, first_set_mask_l, length-chunk, map-map, mask_l-mod}
 use lib.Lanes.{chunk, zip2, mask_l, top}
-use Rattle.cdxj_objects.specs.Plain.{is_neither, is_unescaped_ascii}
+use Rattle.cdxj_objects.specs.Plain.{is_neither, is_printable_ascii}
 
 -- two numbers differ
 abbrev pub differ : ℕ → ℕ → Bool
@@ -100,30 +100,30 @@ digit x = grind (arith, nat_tests)
 pub digit_runs : (v : List ℕ) → prefix_len (λ x. not (no_digit x)) v ≡ prefix_len is_ascii_digit v
 digit_runs v = λ i. prefix_len (λ x. digit x i) v
 
--- ---- bytes that need an escape, or are none of ASCII
+-- ---- controls, and bytes that are none of ASCII
 
-abbrev pub is_escaped : ℕ → Bool
-is_escaped x = (ltb x 32 || ltb 127 x) || eqb x 92
+abbrev pub is_outside : ℕ → Bool
+is_outside x = ltb x 32 || ltb 127 x
 
--- what a vector has for a byte, once it was compared with all three
-abbrev pub escaped_lane : ℕ → ℕ
-escaped_lane x = bit_or (bit_or (cond (ltb x 32) 255 0) (cond (ltb 127 x) 255 0)) (cond (eqb x 92) 255 0)
+-- what a vector has for a byte, once it was compared with both
+abbrev pub outside_lane : ℕ → ℕ
+outside_lane x = bit_or (cond (ltb x 32) 255 0) (cond (ltb 127 x) 255 0)
 
-pub escaped_masks : (v z : List ℕ) → length v ≡ 32 → z ≡ map escaped_lane v → mask_l (map (top 7) z) % 2 ^ 64 ≡ mask_l
-    (map is_escaped v)
-escaped_masks v z long e =
-    grind (arith, map-map, mask_l-mod (map is_escaped v) 64 (omega (arith, length-map v is_escaped, long)))
+pub outside_masks : (v z : List ℕ) → length v ≡ 32 → z ≡ map outside_lane v → mask_l (map (top 7) z) % 2 ^ 64 ≡ mask_l
+    (map is_outside v)
+outside_masks v z long e =
+    grind (arith, map-map, mask_l-mod (map is_outside v) 64 (omega (arith, length-map v is_outside, long)))
 
-unescaped : (x : ℕ) → not (is_escaped x) ≡ is_unescaped_ascii x
-unescaped x = grind (arith, nat_tests)
+printable : (x : ℕ) → not (is_outside x) ≡ is_printable_ascii x
+printable x = grind (arith, nat_tests)
 
-pub unescaped_runs : (v : List ℕ) → prefix_len (λ x. not (is_escaped x)) v ≡ prefix_len is_unescaped_ascii v
-unescaped_runs v = λ i. prefix_len (λ x. unescaped x i) v
+pub printable_runs : (v : List ℕ) → prefix_len (λ x. not (is_outside x)) v ≡ prefix_len is_printable_ascii v
+printable_runs v = λ i. prefix_len (λ x. printable x i) v
 
-pub escaped_first : (v z : List ℕ) → length v ≡ 32 → z ≡ map escaped_lane v
-    → Stops (mask_l (map (top 7) z) % 2 ^ 64) 32 (prefix_len is_unescaped_ascii v)
-escaped_first v z long e =
-    rw (escaped_masks v z long e, ← unescaped_runs v) (mask_stops is_escaped v 32 long (omega arith))
+pub outside_first : (v z : List ℕ) → length v ≡ 32 → z ≡ map outside_lane v
+    → Stops (mask_l (map (top 7) z) % 2 ^ 64) 32 (prefix_len is_printable_ascii v)
+outside_first v z long e =
+    rw (outside_masks v z long e, ← printable_runs v) (mask_stops is_outside v 32 long (omega arith))
 
 -- ---- the run of bytes that pass a test, cut behind a vector
 

@@ -9,3 +9,8 @@ pub mod JsonReading
 pub mod FoundLaw
 pub mod SpellingLemmas
 pub mod StringLength
+pub mod WalkLaw
+pub mod EscapeLaw
+pub mod WrittenLaw
+pub mod BegunLaw
+pub mod PlacedLaw

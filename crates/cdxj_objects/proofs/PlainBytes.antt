@@ -1,5 +1,4 @@
 -- Plain bytes are those that are no quote, no backslash and no control.
-use Rattle.std.proofs.lemmas.Grind.{common_steps}
 use Rattle.std.proofs.Common.{◌≡◌, ℕ, ◌<◌, ◌^◌, decimal, Bool, true, ◌&&◌, List}
 use Rattle.std.proofs.Common.{[], ◌∷◌, nat_lt, refl, arith, IsUtf8}
 use Rattle.std.specs.List.{list_all}
@@ -8,8 +7,7 @@ use Rattle.std.proofs.lemmas.Bool.Decides.{nat_tests}
 use Rattle.std.proofs.lemmas.Fmt.{digits_decimal}
 use Rattle.json.specs.Run.{is_plain}
 use Rattle.json.proofs.Printed.Utf8.{IsUtf8-are_ascii}
-use Rattle.cdxj_objects.specs.Texts.{TextsValue}
-use Rattle.cdxj_objects.specs.Plain.{is_open, is_plain_ascii, is_unescaped, AreOpen, ArePlain, plain_text}
+use Rattle.cdxj_objects.specs.Plain.{is_open, is_plain_ascii, is_printable}
 use Rattle.cdxj_places.proofs.Offsets.{own}
 
 -- what passes a test passes a weaker one
@@ -18,17 +16,12 @@ pub weaker : (p q : ℕ → Bool) → ((b : ℕ) → p b ≡ true → q b ≡ tr
 weaker p q f [] h = refl
 weaker p q f (x ∷ xs) h = grind (arith, weaker p q f xs)
 
-plain_byte : (b : ℕ) → is_plain b ≡ (is_open b && is_unescaped b)
+plain_byte : (b : ℕ) → is_plain b ≡ (is_open b && is_printable b)
 plain_byte b = grind arith
 
-pub list_all_plain : (xs : List ℕ) → list_all is_plain xs ≡ (list_all is_open xs && list_all is_unescaped xs)
+pub list_all_plain : (xs : List ℕ) → list_all is_plain xs ≡ (list_all is_open xs && list_all is_printable xs)
 list_all_plain [] = refl
 list_all_plain (x ∷ xs) = grind (arith, plain_byte, list_all_plain xs)
-
--- ---- the texts of an object that has no control
-
-pub plain_where_unescaped : (t : TextsValue) → AreOpen t → list_all is_unescaped (plain_text t) ≡ true → ArePlain t
-plain_where_unescaped t h k = grind (arith, common_steps, list_all_plain)
 
 -- ---- plain ASCII
 

@@ -11,7 +11,8 @@ use Rattle.std.proofs.lemmas.List.Folds.{length-prefix_len}
 use Rattle.std.proofs.lemmas.List.Sums.{list_all-from_AllPass, prefix_len-le-length, prefix_len_passes}
 use Rattle.cdxj_places.proofs.Offsets.{own}
 use Rattle.cdxj_objects.specs.Plain.{is_neither, is_open}
-use Rattle.cdxj_objects.specs.PlainPlaces.{IsNumberAfter, IsTextAfter, part}
+use Rattle.cdxj_objects.specs.PlainPlaces.{IsNumberAfter, IsTextAfter}
+use Rattle.cdxj_objects.specs.Spans.{part}
 use Rattle.cdxj_objects.proofs.PlainBytes.{weaker}
 
 -- what stands behind a front, up to a place and from there on
@@ -30,7 +31,7 @@ behind text front at n end same low =
 pub cut_behind : (text : List ℕ) (at : ℕ) → at < length text → text ≡ take at text ++ get_or text at 0 ∷ drop (at + 1) text
 cut_behind text at within = grind (arith, take-append-drop, drop_more)
 
-open_byte : (b : ℕ) → is_neither 34 34 b ≡ true → is_open b ≡ true
+open_byte : (b : ℕ) → is_neither 34 92 b ≡ true → is_open b ≡ true
 open_byte b h = grind arith
 
 digit_is_open : (b : ℕ) → is_ascii_digit b ≡ true → is_open b ≡ true
@@ -40,12 +41,12 @@ digit_is_open b h = grind (arith, nat_tests, h)
 pub front_passes : (p : ℕ → Bool) (xs : List ℕ) → list_all p (take (prefix_len p xs) xs) ≡ true
 front_passes p xs = grind (arith, list_all-from_AllPass, length-prefix_len, get_or-take, prefix_len_passes)
 
--- a text up to the first quote has none
-pub open_before : (text : List ℕ) (start end : ℕ) → end ≡ start + prefix_len (is_neither 34 34) (drop start text)
+-- a text up to the first quote or backslash has none
+pub open_before : (text : List ℕ) (start end : ℕ) → end ≡ start + prefix_len (is_neither 34 92) (drop start text)
     → list_all is_open (part text start end) ≡ true
 open_before text start end e =
-    let size : end - start ≡ prefix_len (is_neither 34 34) (drop start text) = omega arith in
-    grind (arith, front_passes (is_neither 34 34) (drop start text), weaker (is_neither 34 34) is_open open_byte)
+    let size : end - start ≡ prefix_len (is_neither 34 92) (drop start text) = omega arith in
+    grind (arith, front_passes (is_neither 34 92) (drop start text), weaker (is_neither 34 92) is_open open_byte)
 
 -- the digits that begin a text
 pub digits_before : (text : List ℕ) (n : ℕ) → n ≡ prefix_len is_ascii_digit (take 16 text) → n ≤ 16
@@ -63,7 +64,7 @@ digits_decimal ds all some single small = sym (decimal-digits_value own ds all s
 -- ---- what stands behind a front
 
 pub text_after : (text front : List ℕ) (at n end : ℕ) → take n (drop at text) ≡ front → at + n ≤ length text
-    → end ≡ at + n + prefix_len (is_neither 34 34) (drop (at + n) text) → IsTextAfter text at front (at + n) end
+    → end ≡ at + n + prefix_len (is_neither 34 92) (drop (at + n) text) → IsTextAfter text at front (at + n) end
 text_after text front at n end same low e = grind (arith, length-drop, prefix_len-le-length, behind, open_before)
 
 pub number_after : (text front : List ℕ) (at n count number : ℕ) → take n (drop at text) ≡ front

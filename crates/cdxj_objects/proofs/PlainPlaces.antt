@@ -1,15 +1,18 @@
 -- Where the texts of a plain object's members stand.
-use Rattle.std.proofs.Common.{◌≡◌, ℕ, zero, suc, ◌+◌, ◌-◌, ◌<◌, ◌≤◌, ◌^◌, ◌==◌, Bool, true, false, List, [], ◌∷◌, ◌++◌, drop}
-use Rattle.std.proofs.Common.{length, length-append, get_or, map, decimal, append_assoc}
-use Rattle.std.proofs.Common.{codes, refl, ap, sym, ◌∙◌, arith, length-drop, length-take, drop-drop, IsUtf8}
+use Rattle.std.proofs.Common.{◌≡◌, ℕ, zero, suc, ◌+◌, ◌-◌, ◌<◌, ◌≤◌, ◌==◌, Bool, true, false, List, [], ◌∷◌, ◌++◌, drop}
+use Rattle.std.proofs.Common.{length, length-append, get_or, map, append_assoc}
+use Rattle.std.proofs.Common.{refl, ap, sym, ◌∙◌, arith, length-drop, length-take, drop-drop, IsUtf8}
 use Rattle.std.proofs.lemmas.Str.{IsCharBoundary-before_ascii, IsCharBoundary-after_ascii}
 use Rattle.std.proofs.Math.Seq.{take-append_seam, drop-append_seam}
 use Rattle.cdxj_objects.specs.declared.members.Members.{Members}
 use Rattle.std.specs.List.{list_all}
-use Rattle.cdxj_objects.specs.ObjectMembers.{AllMembers, each, next_members, zip_members}
+use Rattle.cdxj_objects.specs.ObjectMembers.{AllMembers, each, zip_members}
 use Rattle.cdxj_objects.specs.Plain.{fronts, pieces, plain_text}
-use Rattle.cdxj_objects.specs.PlainPlaces.{AreFrontsOf, AreParts, ArePlainMembers, IsPartBetween}
-use Rattle.cdxj_objects.specs.PlainPlaces.{IsTextAfter, part, text_spans, texts_at}
+use Rattle.cdxj_objects.specs.PlainPlaces.{AreBegun, AreFrontsOf, AreParts}
+use Rattle.cdxj_objects.specs.PlainPlaces.{places_to, spans_at, text_spans, texts_at}
+use Rattle.cdxj_objects.specs.Spelling.{IsWritten}
+use Rattle.cdxj_objects.specs.declared.plain.PlainFronts.{PlainFronts}
+use Rattle.cdxj_objects.specs.Spans.{AreSpans, IsPartBetween, part, span_texts}
 use Rattle.std.proofs.lemmas.Bool.{and_parts}
 use Rattle.cdxj_objects.proofs.TextsLaw.{behind_first}
 use Rattle.cdxj_objects.specs.Texts.{TextsValue}
@@ -128,55 +131,62 @@ module _ (text : List ℕ) (utf8 : IsUtf8 text) where
 
 -- ---- the members of a plain object, one after another
 
-has_length : (text : List ℕ) (start end : ℕ) → end ≤ length text → start ≤ end → end ≡ start
+pub has_length : (text : List ℕ) (start end : ℕ) → end ≤ length text → start ≤ end → end ≡ start
     + length (part text start end)
 has_length text start end high low = grind (arith, length-take, length-drop)
 
--- a text stands behind each front, up to the next
-abbrev IsPlacedAfter : List ℕ → (ℕ × List ℕ) × ℕ → Type 0
-IsPlacedAfter text ((place, front), end) = IsTextAfter text place front (place + length front) end
+pub parts_order : (text : List ℕ) (at : Members ℕ) → AreParts text at
+    → AllMembers (λ place. place.0 ≤ place.1) (text_spans text at)
+parts_order text at h = record {
+  url = h.url.order;
+  mime = h.mime.order;
+  status = h.status.order;
+  digest = h.digest.order;
+  length = h.length.order;
+  offset = h.offset.order;
+  filename = h.filename.order;
+}
 
-abbrev pub AreTextsAfter : List ℕ → Members ℕ → ℕ → Type 0
-AreTextsAfter text at end = AllMembers (IsPlacedAfter text)
-    (zip_members (λ m next. (m, next)) (zip_members (λ place front. (place, front)) at fronts) (next_members at end))
+pub begun_order : (text : List ℕ) (object : ℕ) (m : PlainFronts) → AreBegun text object m
+    → AllMembers (λ place. place.0 ≤ place.1) (places_to m.end m.at)
+begun_order text object m begun = record {
+  url = begun.texts.url.order;
+  mime = begun.texts.mime.order;
+  status = begun.texts.status.order;
+  digest = begun.texts.digest.order;
+  length = begun.texts.length.order;
+  offset = begun.texts.offset.order;
+  filename = begun.texts.filename.order;
+}
 
--- each begins where the one before it ends, and the object ends behind the last
-abbrev Chained : List ℕ → ℕ → List ((ℕ × List ℕ) × ℕ) → Type 0
-Chained text at [] = drop at text ≡ codes "\"}"
-Chained text at (((place, front), end) ∷ rest) = (at ≡ place) × IsTextAfter text place front (place + length front) end
-    × Chained text end rest
+-- ---- where the texts of a plain object stand
 
-abbrev parted : List ℕ → (ℕ × List ℕ) × ℕ → List ℕ × List ℕ
-parted text ((place, front), end) = (front, part text (place + length front) end)
+pub parts_spans : (text : List ℕ) (at : Members ℕ) → AreParts text at → AreSpans text (spans_at text at)
+parts_spans text at h = record {
+  url = h.url;
+  mime = h.mime;
+  status = h.status;
+  digest = h.digest;
+  length = h.length;
+  offset = h.offset;
+  filename = h.filename;
+}
 
-chained : (text : List ℕ) (at : ℕ) (ps : List ((ℕ × List ℕ) × ℕ)) → Chained text at ps
-    → drop at text ≡ pieces (map (parted text) ps)
-chained text at [] h = h
-chained text at (((place, front), end) ∷ ps) h =
-    let later = chained text end ps h.2 in
-    grind (arith, later, h.1.is)
+pub begins_inside : (text : List ℕ) (at b : ℕ) (rest : List ℕ) → drop at text ≡ b ∷ rest → at ≤ length text
+begins_inside text at b rest h = grind (arith, length-drop at text, ap length h)
 
-module _ (text : List ℕ) (end number : ℕ) (at : Members ℕ) (all : AreTextsAfter text at end)
-    (value : part text (at.offset + length fronts.offset) at.filename ≡ decimal number) (small : number < 2 ^ 63)
-    (closed : drop end text ≡ codes "\"}") (named : at.filename + length fronts.filename < end) where
-  last : length text - 2 ≡ end
-  last = omega (arith, length-drop end text, ap length closed, all.filename.inside)
+-- a plain object that was written behind a text
+module _ (old new : List ℕ) (utf8 : IsUtf8 new) (t : TextsValue) (at : Members ℕ) (written : IsWritten old new t at) where
+  written_there : GoesOn new at.url (plain_text t)
+  written_there =
+      let is : drop at.url new ≡ plain_text t = grind (arith, drop-append_seam, written) in
+      (begins_inside new at.url 123 (drop 1 (plain_text t)) is, is)
 
-  is_whole : drop at.url text ≡ plain_text (texts_at text at)
-  is_whole = rw last (chained text at.url (each (zip_members (λ m next. (m, next))
-      (zip_members (λ place front. (place, front)) at fronts) (next_members at end))) (grind (arith, all, closed)))
+  pub written_parts : AreParts new at
+  written_parts = parts_there new utf8 t at written_there written.fronts
 
-  pub members_there : ArePlainMembers text at.url (record { fronts = at; offset = number })
-  members_there = record {
-    begins = refl;
-    is = is_whole;
-    no_quotes = grind (arith, last);
-    fronts = grind (arith, last, has_length);
-    value = value;
-    small = small;
-    named = rw last (omega (
-      arith,
-      has_length text (at.filename + length fronts.filename) end all.filename.inside
-          all.filename.order,
-    ));
-  }
+  pub written_spans : AreSpans new (spans_at new at)
+  written_spans = parts_spans new at written_parts
+
+  pub written_texts : span_texts new (spans_at new at) ≡ t
+  written_texts = texts_there new utf8 t at written_there written.fronts

@@ -12,25 +12,21 @@ use Rattle.cdxj_objects.specs.Texts.{TextsValue, or_missing}
 abbrev pub is_neither : ℕ → ℕ → ℕ → Bool
 is_neither first second b = not (b == first) && not (b == second)
 
--- no quote
+-- neither a quote nor a backslash
 abbrev pub is_open : ℕ → Bool
-is_open b = not (b == quote)
+is_open b = not (b == quote) && not (b == backslash)
 
--- no control and no backslash
-abbrev pub is_unescaped : ℕ → Bool
-is_unescaped b = nat_le space b && not (b == backslash)
+-- no control
+abbrev pub is_printable : ℕ → Bool
+is_printable b = nat_le space b
 
 -- the same for a character of ASCII
-abbrev pub is_unescaped_ascii : ℕ → Bool
-is_unescaped_ascii b = is_unescaped b && nat_lt b 128
+abbrev pub is_printable_ascii : ℕ → Bool
+is_printable_ascii b = is_printable b && nat_lt b 128
 
 -- the same, without a quote
 abbrev pub is_plain_ascii : ℕ → Bool
 is_plain_ascii b = is_plain b && nat_lt b 128
-
--- no text has a quote
-abbrev pub AreOpen : TextsValue → Type 0
-AreOpen = AllMembers (λ s. list_all is_open s ≡ true)
 
 -- no text has a quote, a backslash or a control
 abbrev pub ArePlain : TextsValue → Type 0

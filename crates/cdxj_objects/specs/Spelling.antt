@@ -1,11 +1,13 @@
 -- A line followed by a plain object with the texts of its members.
 use Rattle.std.specs.Prelude.{◌≡◌, ℕ, List, ◌++◌, length, decimal}
 use Rattle.cdxj_objects.specs.declared.members.Members.{Members}
+use Rattle.cdxj_objects.specs.declared.span.Span.{Span}
 use Rattle.cdxj_objects.specs.FoundMembers.{FoundValue, raw_text}
 use Rattle.cdxj_objects.specs.MemberValues.{value_text}
 use Rattle.cdxj_objects.specs.ObjectMembers.{map_members}
 use Rattle.cdxj_objects.specs.Plain.{plain_text, values_of_texts}
 use Rattle.cdxj_objects.specs.PlainPlaces.{AreFrontsOf}
+use Rattle.cdxj_objects.specs.Spans.{AreSpans, span_texts}
 use Rattle.cdxj_objects.specs.Texts.{TextsValue}
 
 -- the texts of members that were found, as they stand
@@ -24,10 +26,10 @@ pub record IsWritten (old new : List ℕ) (t : TextsValue) (at : Members ℕ) : 
   pub object : at.url ≡ length old
   pub fronts : AreFrontsOf new t at
 
--- the text is the line and a plain object with these texts, whose fronts stand there
+-- the text is the line and a plain object with these texts, which stand there
 pub record IsSpelled (line : List ℕ) (f : FoundValue) (offset : ℕ) (filename text : List ℕ)
-    (at : Members ℕ) : Type 0 where
+    (at : Members Span) : Type 0 where
   pub text_is : text ≡ line ++ plain_text (raw_texts f offset filename)
-  pub object : at.url ≡ length line
-  pub fronts : AreFrontsOf text (raw_texts f offset filename) at
+  pub parts : AreSpans text at
+  pub texts_are : span_texts text at ≡ raw_texts f offset filename
   pub values : values_of_texts (raw_texts f offset filename) ≡ found_texts f offset filename

@@ -1,25 +1,26 @@
-//! Plain objects: seven members in the order and the spelling of a written line, whose texts need
-//! no escapes.
+//! The seven members in the order and the spelling of a written line, whose texts need no escapes.
 ghost use Rattle.std.specs.Prelude.{◌≡◌, ◌≤◌, ◌<◌, ◌+◌, ◌^◌, true, codes, drop, length, take};
 ghost use Rattle.std.specs.Prelude.{IfSome};
 ghost use Rattle.std.specs.Char.{is_ascii_digit};
 ghost use Rattle.std.specs.List.{list_all, prefix_len};
 ghost use Rattle.std.specs.Str.Parse.{digits_value};
-ghost use Rattle.cdxj_objects.specs.PlainPlaces.{ArePlainMembers, AreParts, IsNumberAfter};
-ghost use Rattle.cdxj_objects.specs.PlainPlaces.{IsPartBetween, IsTextAfter, part, texts_at};
-ghost use Rattle.cdxj_objects.specs.Texts.{borrowed_view};
+ghost use Rattle.cdxj_objects.specs.ObjectMembers.{AllMembers};
+ghost use Rattle.cdxj_objects.specs.PlainPlaces.{AreBegun, AreParts, IsNumberAfter, IsTextAfter};
+ghost use Rattle.cdxj_objects.specs.PlainPlaces.{places_to, spans_at, spans_to};
 
 use crate::lanes::{Front, digits_before, has_front, holds_lanes, place_of_either};
 use crate::members::{AFTER, BEFORE, FRONTS, Members};
+use crate::span::Span;
 
 /// The least number of digits that aren't read as an offset here.
 const TOO_MANY_DIGITS: usize = 16;
 
-/// Where the fronts of a plain object's members stand, and the offset.
-#[derive(Drop)]
-pub struct PlainMembers {
-    pub fronts: Members<usize>,
+/// Where the fronts of an object's members stand, the offset, and where the last text ends.
+#[derive(Clone, Copy, Drop)]
+pub(crate) struct PlainFronts {
+    pub at: Members<usize>,
     pub offset: u64,
+    pub end: usize,
 }
 
 /// Returns the end of the text behind a front, if that front stands at a place.
@@ -30,7 +31,7 @@ fn end_after(text: &[u8], at: usize, front: Front) -> Option<usize>
         (at + front.length)) }
 {
     if has_front(text, at, front) {
-        Some(place_of_either(text, at + front.length, b'"', b'"'))
+        Some(place_of_either(text, at + front.length, b'"', b'\\'))
     } else {
         None
     }
@@ -38,7 +39,7 @@ fn end_after(text: &[u8], at: usize, front: Front) -> Option<usize>
 
 /// Returns the number that digits spell.
 #[inline(always)]
-fn number_of(digits: &[u8]) -> u64
+pub(crate) fn number_of(digits: &[u8]) -> u64
     requires few { length digits.now < 16 }
     requires digits { list_all is_ascii_digit digits.now ≡ true }
     ensures value { result ≡ digits_value 10 digits.now }
@@ -54,7 +55,7 @@ fn number_of(digits: &[u8]) -> u64
 /// Returns the number of digits from a place on, if it is at least 1 and less than 16. It may
 /// decline any digits.
 #[inline(always)]
-fn count_digits(text: &[u8], start: usize) -> Option<usize>
+pub(crate) fn count_digits(text: &[u8], start: usize) -> Option<usize>
     ensures long { IfSome result (λ n. start + 16 ≤ length text.now) }
     ensures few { IfSome result (λ n. (0 < n) × (n < 16)) }
     ensures digits { IfSome result
@@ -88,19 +89,21 @@ fn number_after(text: &[u8], at: usize, front: Front) -> Option<(usize, u64)>
     Some((start + count, number_of(&text[start..start + count])))
 }
 
+/// Returns `true` if a quote and a brace end the text at a place.
 #[inline(always)]
-fn is_closed(text: &[u8], end: usize) -> bool
+pub(crate) fn is_closed(text: &[u8], end: usize) -> bool
     requires { end ≤ length text.now }
     ensures { result ≡ true → drop end text.now ≡ codes "\"}" }
 {
     matches!(&text[end..], [b'"', b'}'])
 }
 
-/// Returns where a plain object's members stand, if the object begins at a place of the text and
-/// ends with it, and has a file name. It may decline any object.
+/// Returns where the members stand with which an object begins, if it begins at a place of the text
+/// with all seven, in the order and the spelling of a written line, and has a file name. It may
+/// decline any object, and doesn't look at what follows.
 #[inline(always)]
-pub fn plain_members(text: &[u8], object: usize) -> Option<PlainMembers>
-    ensures { IfSome result (ArePlainMembers text.now object) }
+pub(crate) fn begun_fronts(text: &[u8], object: usize) -> Option<PlainFronts>
+    ensures { IfSome result (AreBegun text.now object) }
 {
     // One copy: each use of the constant itself would be compiled as a copy of the whole.
     let fronts = FRONTS;
@@ -111,11 +114,11 @@ pub fn plain_members(text: &[u8], object: usize) -> Option<PlainMembers>
     let offset = end_after(text, length, fronts.length)?;
     let (filename, number) = number_after(text, offset, fronts.offset)?;
     let end = end_after(text, filename, fronts.filename)?;
-    if end == filename + BEFORE.filename.len() || !is_closed(text, end) {
+    if end == filename + BEFORE.filename.len() {
         return None;
     }
-    Some(PlainMembers {
-        fronts: Members {
+    Some(PlainFronts {
+        at: Members {
             url: object,
             mime,
             status,
@@ -125,33 +128,45 @@ pub fn plain_members(text: &[u8], object: usize) -> Option<PlainMembers>
             filename,
         },
         offset: number,
+        end,
     })
 }
 
-/// Returns the text between a front that stands at a place and an end.
 #[inline(always)]
-fn text_behind<'a>(text: &'a str, at: usize, front: &str, end: usize) -> &'a str
-    requires { IsPartBetween text.now (at + length front.now) end }
-    ensures { result.now ≡ part text.now (at + length front.now) end }
+fn span_behind(at: usize, front: &str, end: usize) -> Span
+    requires { at + length front.now ≤ end }
+    ensures { result ≡ record { start = at + length front.now; end = end } }
 {
-    &text[at + front.len()..end]
+    Span {
+        start: at + front.len(),
+        end,
+    }
 }
 
-/// Returns the texts of the members whose fronts stand there.
+/// Returns where the texts stand behind these fronts, of which the last ends at a place.
 #[inline(always)]
-pub fn texts_at<'a>(text: &'a str, fronts: &Members<usize>) -> Members<&'a str>
-    requires { AreParts text.now fronts.now }
-    ensures { borrowed_view result ≡ texts_at text.now fronts.now }
+pub(crate) fn texts_behind(at: &Members<usize>, end: usize) -> Members<Span>
+    requires { AllMembers (λ span. span.0 ≤ span.1) (places_to end at.now) }
+    ensures { result ≡ spans_to end at.now }
 {
-    let at = *fronts;
+    let at = *at;
     let before = BEFORE;
     Members {
-        url: text_behind(text, at.url, before.url, at.mime),
-        mime: text_behind(text, at.mime, before.mime, at.status),
-        status: text_behind(text, at.status, before.status, at.digest),
-        digest: text_behind(text, at.digest, before.digest, at.length),
-        length: text_behind(text, at.length, before.length, at.offset),
-        offset: text_behind(text, at.offset, before.offset, at.filename),
-        filename: text_behind(text, at.filename, before.filename, text.len() - AFTER.len()),
+        url: span_behind(at.url, before.url, at.mime),
+        mime: span_behind(at.mime, before.mime, at.status),
+        status: span_behind(at.status, before.status, at.digest),
+        digest: span_behind(at.digest, before.digest, at.length),
+        length: span_behind(at.length, before.length, at.offset),
+        offset: span_behind(at.offset, before.offset, at.filename),
+        filename: span_behind(at.filename, before.filename, end),
     }
+}
+
+/// The same in a text that ends with the object.
+#[tactic(auto, using(crate::proofs::PlainPlaces::parts_order))]
+pub(crate) fn texts_in(text: &str, at: &Members<usize>) -> Members<Span>
+    requires { AreParts text.now at.now }
+    ensures { result ≡ spans_at text.now at.now }
+{
+    texts_behind(at, text.len() - AFTER.len())
 }

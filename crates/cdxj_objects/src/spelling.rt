@@ -10,6 +10,8 @@ ghost use Rattle.cdxj_objects.specs.Texts.{or_missing};
 use crate::found_members::FoundMembers;
 use crate::member_value::MemberValue;
 use crate::members::{AFTER, BEFORE, Members};
+use crate::plain::texts_in;
+use crate::span::Span;
 use itoa::Buffer;
 use std::alloc::{AllocError, Global};
 
@@ -77,15 +79,15 @@ fn push_members(
     })
 }
 
-/// Returns the line followed by a plain object with the texts of its members, and where the fronts
-/// of these members stand.
+/// Returns the line followed by a plain object with the texts of its members, and where these texts
+/// stand.
 pub fn spelled<'a>(
     alloc: Global,
     line: &str,
     found: FoundMembers<'a>,
     number: u64,
     name: &'a str,
-) -> Result<(String, Members<usize>), AllocError>
+) -> Result<(String, Members<Span>), AllocError>
     ensures { IfOk result (λ p. IsSpelled line.now (found_view found.entry) number name.now
         (string_bytes p.0) p.1) }
 {
@@ -97,5 +99,6 @@ pub fn spelled<'a>(
     let mut text = String::with_capacity(alloc, line.len().saturating_mul(2))?;
     text.push_str(line)?;
     let fronts = push_members(&mut text, members)?;
-    Ok((text, fronts))
+    let texts = texts_in(text.as_str(), &fronts);
+    Ok((text, texts))
 }

@@ -89,13 +89,12 @@ crc_bits-zero n =
     ap (λ (v : ℕ). crc_bits n v) e ∙ crc_bits-high n 0
 
 -- the low byte of the register goes through the table, and the rest moves down
-pub by_byte : (n x : ℕ) → crc_bits (8 + n) x ≡ bit_xor (crc_bits (8 + n) (x % 256)) (crc_bits n (x / 256))
+pub by_byte : (n x : ℕ) → crc_bits (8 + n) x ≡ bit_xor (crc_bits n (x / 256)) (crc_bits (8 + n) (x % 256))
 by_byte n x =
     let e : x ≡ bit_xor (x / 256 * 2 ^ 8) (x % 256) = sym (div-add-mod' x 256) ∙ sym (xor_shifted (x / 256) 8 (x % 256) (mod_below x 256 (omega arith))) in
     ap (λ (v : ℕ). crc_bits (8 + n) v) e ∙ crc_bits-xor (8 + n) (x / 256 * 2 ^ 8) (x % 256)
     ∙ ap (λ (v : ℕ). bit_xor v (crc_bits (8 + n) (x % 256)))
     (crc_bits-add 8 n (x / 256 * 2 ^ 8) ∙ ap (λ (v : ℕ). crc_bits n v) (crc_bits-high 8 (x / 256)))
-    ∙ xor_comm (crc_bits n (x / 256)) (crc_bits (8 + n) (x % 256))
 
 pub crc_bits-none : (a : ℕ) → crc_bits 0 a ≡ a
 unfolding crc_bits
@@ -128,14 +127,14 @@ table_entry t n k b has inside byte =
 
 -- the low byte of a word by its table, before the rest of the word
 pub peeled : (t : List ℕ) (b j x rest : ℕ) → HasEntries t 4096 → b + j < 16 → rest ≡ crc_bits (8 * (b + j)) (x / 256)
-    → bit_xor (get_or t (256 * (b + j) + x % 256) 0) rest ≡ crc_bits (8 * (b + (j + 1))) x
+    → bit_xor rest (get_or t (256 * (b + j) + x % 256) 0) ≡ crc_bits (8 * (b + (j + 1))) x
 peeled t b j x rest has small e =
     let n : ℕ = 8 * (b + j) in
     let m : 8 * (b + j + 1) ≡ 8 + n = omega arith in
     let m2 : 8 * (b + (j + 1)) ≡ 8 + n = omega arith in
     let entry : get_or t (256 * (b + j) + x % 256) 0 ≡ crc_bits (8 + n) (x % 256) =
     table_entry t 4096 (b + j) (x % 256) has (omega (arith, mod_below x 256)) (mod_below x 256 (omega arith)) ∙ ap (λ (v : ℕ). crc_bits v (x % 256)) m in
-    ap (λ (v : ℕ). bit_xor v rest) entry ∙ ap (λ (v : ℕ). bit_xor (crc_bits (8 + n) (x % 256)) v) e
+    ap (λ (v : ℕ). bit_xor rest v) entry ∙ ap (λ (v : ℕ). bit_xor v (crc_bits (8 + n) (x % 256))) e
     ∙ sym (by_byte n x) ∙ ap (λ (v : ℕ). crc_bits v x) (sym m2)
 
 pub last_byte : (t : List ℕ) (b x : ℕ) → HasEntries t 4096 → b < 16 → x < 256 → get_or t (256 * b + x % 256) 0 ≡ crc_bits (8 * (b + 1)) x
@@ -162,14 +161,13 @@ as_word register (b ∷ bytes) h =
 
 -- 16 bytes are two words, of which each has its part
 pub two_words : (register low high : ℕ) → low < 2 ^ 64 → crc_bits 128 (bit_xor register (low + high * 2 ^ 64))
-    ≡ bit_xor (crc_bits 128 (bit_xor register low)) (crc_bits 64 high)
+    ≡ bit_xor (crc_bits 64 high) (crc_bits 128 (bit_xor low register))
 two_words register low high small =
-    let sum : low + high * 2 ^ 64 ≡ bit_xor low (high * 2 ^ 64) =
-    sym (xor_comm low (high * 2 ^ 64) ∙ xor_shifted high 64 low small ∙ omega arith) in
-    ap (λ (v : ℕ). crc_bits 128 (bit_xor register v)) sum
-    ∙ ap (λ (v : ℕ). crc_bits 128 v) (sym (xor_assoc register low (high * 2 ^ 64)))
-    ∙ crc_bits-xor 128 (bit_xor register low) (high * 2 ^ 64)
-    ∙ ap (λ (v : ℕ). bit_xor (crc_bits 128 (bit_xor register low)) v)
+    let sum : low + high * 2 ^ 64 ≡ bit_xor (high * 2 ^ 64) low = sym (xor_shifted high 64 low small ∙ omega arith) in
+    ap (λ (v : ℕ). crc_bits 128 v)
+    (xor_comm register (low + high * 2 ^ 64) ∙ ap (λ (v : ℕ). bit_xor v register) sum ∙ xor_assoc (high * 2 ^ 64) low register)
+    ∙ crc_bits-xor 128 (high * 2 ^ 64) (bit_xor low register)
+    ∙ ap (λ (v : ℕ). bit_xor v (crc_bits 128 (bit_xor low register)))
     (crc_bits-add 64 64 (high * 2 ^ 64) ∙ ap (λ (v : ℕ). crc_bits 64 v) (crc_bits-high 64 high))
 
 -- the first bytes as a number
@@ -193,7 +191,7 @@ crc_register-append register (b ∷ xs) ys = crc_register-append (crc_bits 8 (bi
 -- a block of 16 bytes
 pub block_step : (register : ℕ) (s : List ℕ) (at : ℕ) → ((i : ℕ) → get_or s i 0 < 256) → at + 16 ≤ length s
     → crc_register register (drop at s)
-    ≡ crc_register (bit_xor (crc_bits 128 (bit_xor register (little_endian (drop at s) % 2 ^ 64))) (crc_bits 64 (little_endian (drop (at + 8) s) % 2 ^ 64)))
+    ≡ crc_register (bit_xor (crc_bits 64 (little_endian (drop (at + 8) s) % 2 ^ 64)) (crc_bits 128 (bit_xor (little_endian (drop at s) % 2 ^ 64) register)))
     (drop (at + 16) s)
 block_step register s at h room =
     let x : List ℕ = drop at s in

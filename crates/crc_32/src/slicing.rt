@@ -27,7 +27,8 @@ fn by_bytes(tables: &[u32], register: u32, bytes: &[u8]) -> u32
     crc
 }
 
-/// Returns a word's part of the register, with `base` bytes behind it.
+/// Returns a word's part of the register, with `base` bytes behind it. The parts of its first bytes
+/// are added last.
 #[inline(always)]
 fn word_part(tables: &[u32], word: u64, base: usize) -> u32
     requires tables { HasEntries tables.now 4096 }
@@ -41,14 +42,14 @@ fn word_part(tables: &[u32], word: u64, base: usize) -> u32
     let w5 = w4 / 256;
     let w6 = w5 / 256;
     let w7 = w6 / 256;
-    tables[256 * (base + 7) + (word % 256) as usize]
-        ^ (tables[256 * (base + 6) + (w1 % 256) as usize]
-            ^ (tables[256 * (base + 5) + (w2 % 256) as usize]
-                ^ (tables[256 * (base + 4) + (w3 % 256) as usize]
-                    ^ (tables[256 * (base + 3) + (w4 % 256) as usize]
-                        ^ (tables[256 * (base + 2) + (w5 % 256) as usize]
-                            ^ (tables[256 * (base + 1) + (w6 % 256) as usize]
-                                ^ tables[256 * base + (w7 % 256) as usize]))))))
+    tables[256 * base + (w7 % 256) as usize]
+        ^ tables[256 * (base + 1) + (w6 % 256) as usize]
+        ^ tables[256 * (base + 2) + (w5 % 256) as usize]
+        ^ tables[256 * (base + 3) + (w4 % 256) as usize]
+        ^ tables[256 * (base + 4) + (w3 % 256) as usize]
+        ^ tables[256 * (base + 5) + (w2 % 256) as usize]
+        ^ tables[256 * (base + 6) + (w1 % 256) as usize]
+        ^ tables[256 * (base + 7) + (word % 256) as usize]
 }
 
 /// Returns the register after bytes, 16 at a time.
@@ -59,8 +60,10 @@ pub(crate) fn register_after(tables: &[u32], register: u32, bytes: &[u8]) -> u32
     let mut crc = register;
     let mut at = 0;
     'sixteen: while bytes.len() - at >= 16 {
-        crc = word_part(tables, word_at(bytes, at) ^ crc as u64, 8)
-            ^ word_part(tables, word_at(bytes, at + 8), 0);
+        // The parts are added in this order. Those that wait for the register are the last.
+        let second = word_part(tables, word_at(bytes, at + 8), 0);
+        let first = word_part(tables, word_at(bytes, at) ^ crc as u64, 8);
+        crc = second ^ first;
         at += 16;
     }
     by_bytes(tables, crc, &bytes[at..])

@@ -19,4 +19,6 @@ mod reading;
 #[cfg(test)]
 mod refusals;
 #[cfg(test)]
+mod spellings;
+#[cfg(test)]
 mod writing;

@@ -24,7 +24,7 @@ fn a_plain_line_takes_no_memory(rt: HostRuntime) -> Result<(), Fail> {
 
 /// Returns `true` if the plain line is read in place of the line that was held.
 fn becomes_plain(kept: &mut Line) -> bool {
-    kept.refill(PLAIN).is_ok()
+    kept.refill(PLAIN, &mut None).is_ok()
         && kept.place().filename == "a.warc"
         && has_member(kept, Field::Original, "http://x/")
 }

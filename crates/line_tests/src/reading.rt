@@ -310,7 +310,7 @@ pub fn has_member(kept: &Line, field: Field, value: &str) -> bool {
 
 /// Returns `true` if a text without a pair is refused.
 fn refuses_key_alone(kept: &mut Line) -> Result<bool, LineFault> {
-    match kept.refill(b"k") {
+    match kept.refill(b"k", &mut None) {
         Err(LineFault::Memory) => Err(LineFault::Memory),
         Err(LineFault::BadLine) => Ok(true),
         _ => Ok(false),
@@ -324,9 +324,14 @@ fn a_kept_line_is_refilled(rt: HostRuntime) -> Result<(), LineFault> {
     let mut kept = Line::new(alloc, &read.values())?;
     assert!(rt; keeps_foreign(&kept));
     assert!(rt; has_member(&kept, Field::Statuscode, "200"));
-    kept.refill(ESCAPED)?;
+    let mut scratch = None;
+    kept.refill(ESCAPED, &mut scratch)?;
     assert!(rt; keeps_escaped(&kept));
     assert!(rt; has_member(&kept, Field::Original, "-"));
+    kept.refill(FOREIGN, &mut scratch)?;
+    assert!(rt; keeps_foreign(&kept));
+    kept.refill(ESCAPED, &mut scratch)?;
+    assert!(rt; keeps_escaped(&kept));
     assert!(rt; refuses_key_alone(&mut kept)?);
     assert!(rt; keeps_escaped(&kept));
     assert!(rt; keeps_escaped(&Line::read(alloc, ESCAPED)?));

@@ -1,5 +1,5 @@
 use Rattle.std.proofs.Common.{◌≡◌, ℕ, ◌+◌, ◌*◌, ◌/◌, ◌%◌, get_or, bit_xor, ap, sym, ◌∙◌, arith}
-use Rattle.std.proofs.lemmas.Nat.{xor_shr, mod_below, xor_comm}
+use Rattle.std.proofs.lemmas.Nat.{xor_shr, mod_below}
 use lib.Bits.{xor_zero_r}
 use Rattle.crc_32.specs.Crc.{crc_bits}
 use Rattle.crc_32.proofs.CrcLemmas.{by_byte, crc_bits-none, table_entry}
@@ -18,6 +18,5 @@ returns c =
     ap (λ (v : ℕ). get_or c.args.tables.now v 0) place ∙ table_entry c.args.tables.now 256 0 (x % 256) c.requires (omega (arith, mod_below x 256)) (mod_below x 256 (omega arith)) in
     ap (λ (v : ℕ). bit_xor v (get_or c.args.tables.now (x % 256) 0)) high
     ∙ ap (λ (v : ℕ). bit_xor (x / 256) v) entry
-    ∙ xor_comm (x / 256) (crc_bits 8 (x % 256))
-    ∙ ap (λ (v : ℕ). bit_xor (crc_bits 8 (x % 256)) v) (sym (crc_bits-none (x / 256)))
+    ∙ ap (λ (v : ℕ). bit_xor v (crc_bits 8 (x % 256))) (sym (crc_bits-none (x / 256)))
     ∙ sym (by_byte 0 x)

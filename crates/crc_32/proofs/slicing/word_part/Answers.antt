@@ -11,7 +11,7 @@ returns c =
     let b : ℕ = c.args.base in
     let w : ℕ = c.args.word in
     let step : (j x rest : ℕ) → j < 8 → rest ≡ crc_bits (8 * (b + j)) (x / 256)
-    → bit_xor (get_or t (256 * (b + j) + x % 256) 0) rest ≡ crc_bits (8 * (b + (j + 1))) x =
+    → bit_xor rest (get_or t (256 * (b + j) + x % 256) 0) ≡ crc_bits (8 * (b + (j + 1))) x =
     λ j x rest small e. peeled t b j x rest has (omega arith) e in
     let w1 : ℕ = w / 256 in
     let w2 : ℕ = w1 / 256 in

@@ -22,7 +22,7 @@ invariant_of-result c =
       IsUtf8-string_bytes,
       json_kept LINE_LIMIT (string_bytes c.in_ok-text.text) c.in-Ok.body.now c.cut_first.result.0.now
           c.cut_first.result.1.now c.in-Ok-try_from.stamp c.cut_first-2.result.1.now c.in-Some-filename.filename.now
-          (found_view c.in-Some.found) c.in-Some-offset.offset c.in_ok-text.fronts,
+          (found_view c.in-Some.found) c.in-Some-offset.offset c.in_ok-text.texts,
     )
 
 pub returns : goal.returns

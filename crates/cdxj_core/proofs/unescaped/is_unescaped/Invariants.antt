@@ -1,7 +1,0 @@
-use Rattle.std.proofs.Common.{◌≡◌, take}
-use Rattle.std.specs.List.{list_all}
-use Rattle.cdxj_objects.specs.Plain.{is_unescaped}
-use Rattle.cdxj_core.proofs.unescaped.is_unescaped.Given as goal
-
-abbrev pub invariant-loop-byte : goal.invariant-loop-byte
-invariant-loop-byte l = l.good ≡ list_all is_unescaped (take l.byte-index l.text)

@@ -1,0 +1,282 @@
+//! A walk over the members of an object, where they stand.
+ghost use Rattle.std.specs.Prelude.{◌≡◌, ◌<◌, true, length, IfSome};
+ghost use Rattle.std.specs.List.{list_all};
+ghost use Rattle.cdxj_objects.specs.ObjectMembers.{with_named};
+ghost use Rattle.cdxj_objects.specs.Plain.{is_printable, later_front};
+ghost use Rattle.cdxj_objects.specs.PlainPlaces.{AreBegun};
+ghost use Rattle.cdxj_objects.specs.Walk.{AreFirst, AreWalked, IsAnyTurn, IsBehindQuote, IsFrontAt, IsOther};
+ghost use Rattle.cdxj_objects.specs.Walk.{IsPassed, IsTurn, IsWrittenTurn, name_of, span_of};
+
+use crate::lanes::{has_front, holds_lanes, place_of_either};
+use crate::members::{FRONTS, Members};
+use crate::plain::{PlainFronts, texts_behind};
+use crate::span::Span;
+use crate::tokens::{Stands, behind, byte_is, escaped_to, skip_blanks, text_to, value_at};
+
+/// A member that was read: where its name stands, and its value.
+#[derive(Clone, Copy, Drop)]
+pub(crate) struct Passed {
+    pub name_start: usize,
+    pub name_end: usize,
+    pub value: Stands,
+}
+
+/// Reads the member that stands at a place.
+#[inline(always)]
+fn member_at(text: &[u8], at: usize) -> Option<Passed>
+    requires { list_all is_printable text.now ≡ true }
+    ensures { IfSome result (IsPassed text.now at) }
+{
+    let name_end = text_to(text, at)?;
+    let begin = behind(text, name_end + 1, b':')?;
+    let value = value_at(text, begin)?;
+    Some(Passed {
+        name_start: at + 1,
+        name_end,
+        value,
+    })
+}
+
+/// The span of a member that isn't there.
+const NOWHERE: Span = Span { start: 0, end: 0 };
+
+/// Gives the member of this name a span, if there is one.
+#[inline(always)]
+fn put(members: &mut Members<Span>, name: &[u8], span: Span)
+    ensures { members.new ≡ with_named name.now span members.old }
+{
+    if name == b"url".as_slice() {
+        members.url = span;
+    } else if name == b"mime".as_slice() {
+        members.mime = span;
+    } else if name == b"status".as_slice() {
+        members.status = span;
+    } else if name == b"digest".as_slice() {
+        members.digest = span;
+    } else if name == b"length".as_slice() {
+        members.length = span;
+    } else if name == b"offset".as_slice() {
+        members.offset = span;
+    } else if name == b"filename".as_slice() {
+        members.filename = span;
+    }
+}
+
+#[inline(always)]
+fn span_of(value: Stands) -> Span
+    ensures { result ≡ span_of value }
+{
+    Span {
+        start: value.start,
+        end: value.end,
+    }
+}
+
+/// Returns `true` if a name is none of the seven.
+#[cold]
+fn is_other(name: &[u8]) -> bool
+    ensures { result ≡ true → IsOther name.now }
+{
+    name != b"url".as_slice()
+        && name != b"mime".as_slice()
+        && name != b"status".as_slice()
+        && name != b"digest".as_slice()
+        && name != b"length".as_slice()
+        && name != b"offset".as_slice()
+        && name != b"filename".as_slice()
+}
+
+/// Passes a member with a name that isn't one of the seven, whose value has escapes.
+#[cold]
+#[tactic(auto, using(crate::proofs::WalkLaw::skipped_turn))]
+fn skip(text: &[u8], at: usize, members: Members<Span>) -> Option<usize>
+    requires { list_all is_printable text.now ≡ true }
+    ensures { IfSome result (IsTurn text.now at members members) }
+{
+    let name_end = text_to(text, at)?;
+    let begin = behind(text, name_end + 1, b':')?;
+    let end = escaped_to(text, begin)?;
+    if is_other(&text[at + 1..name_end]) {
+        Some(end + 1)
+    } else {
+        None
+    }
+}
+
+/// Reads the member that stands at a place, notes where its text stands, and returns what follows.
+#[inline(always)]
+#[tactic(auto, using(crate::proofs::WalkLaw::passed_turn))]
+fn turn(text: &[u8], at: usize, members: &mut Members<Span>) -> Option<usize>
+    requires { list_all is_printable text.now ≡ true }
+    ensures { IfSome result (IsTurn text.now at members.old members.new) }
+{
+    match member_at(text, at) {
+        Some(member) => {
+            let name = &text[member.name_start..member.name_end];
+            put(members, name, span_of(member.value));
+            Some(member.value.after)
+        }
+        None => skip(text, at, *members),
+    }
+}
+
+/// One of the members that come behind another in a written line.
+#[derive(Clone, Copy, Drop)]
+enum Later {
+    Mime,
+    Status,
+    Digest,
+    Length,
+    Offset,
+    Filename,
+}
+
+/// Returns the member whose front, as it is written, stands at a place, if there is one. It may
+/// overlook any.
+#[inline(always)]
+fn front_at(text: &[u8], at: usize) -> Option<Later>
+    ensures { IfSome result (IsFrontAt text.now at) }
+{
+    if !holds_lanes(text, at) {
+        return None;
+    }
+    let fronts = FRONTS;
+    match text[at + 4] {
+        b'm' if has_front(text, at, fronts.mime) => Some(Later::Mime),
+        b's' if has_front(text, at, fronts.status) => Some(Later::Status),
+        b'd' if has_front(text, at, fronts.digest) => Some(Later::Digest),
+        b'l' if has_front(text, at, fronts.length) => Some(Later::Length),
+        b'o' if has_front(text, at, fronts.offset) => Some(Later::Offset),
+        b'f' if has_front(text, at, fronts.filename) => Some(Later::Filename),
+        _ => None,
+    }
+}
+
+#[inline(always)]
+fn front_length(member: Later) -> usize
+    ensures { result ≡ length (later_front (name_of member)) }
+{
+    match member {
+        Later::Mime => 12,
+        Later::Status => 14,
+        Later::Digest => 14,
+        Later::Length => 14,
+        Later::Offset => 14,
+        Later::Filename => 16,
+    }
+}
+
+#[inline(always)]
+fn put_later(members: &mut Members<Span>, member: Later, span: Span)
+    ensures { members.new ≡ with_named (name_of member) span members.old }
+{
+    match member {
+        Later::Mime => members.mime = span,
+        Later::Status => members.status = span,
+        Later::Digest => members.digest = span,
+        Later::Length => members.length = span,
+        Later::Offset => members.offset = span,
+        Later::Filename => members.filename = span,
+    }
+}
+
+/// Reads the text behind a front that stands at a place, notes where it stands, and returns the
+/// place behind it.
+#[inline(always)]
+fn written_turn(text: &[u8], at: usize, member: Later, members: &mut Members<Span>) -> Option<usize>
+    requires printable { list_all is_printable text.now ≡ true }
+    requires front { IsFrontAt text.now at member }
+    ensures { IfSome result (IsWrittenTurn text.now at (name_of member) members.old members.new) }
+{
+    let start = at + front_length(member);
+    let end = place_of_either(text, start, b'"', b'\\');
+    if !byte_is(text, end, b'"') {
+        return None;
+    }
+    put_later(members, member, Span { start, end });
+    Some(end + 1)
+}
+
+/// Reads the member behind a comma, in any spelling, notes where its text stands, and returns the
+/// place of the comma or the brace behind it.
+fn any_turn(text: &[u8], at: usize, members: &mut Members<Span>) -> Option<usize>
+    requires printable { list_all is_printable text.now ≡ true }
+    requires inside { at < length text.now }
+    ensures { IfSome result (IsAnyTurn text.now at members.old members.new) }
+{
+    let begin = skip_blanks(text, at + 1);
+    let after = turn(text, begin, members)?;
+    Some(skip_blanks(text, after))
+}
+
+/// Returns the place behind the quote that stands at a place.
+#[inline(always)]
+fn behind_quote(text: &[u8], at: usize) -> Option<usize>
+    ensures { IfSome result (λ after. IsBehindQuote text.now at after) }
+{
+    if byte_is(text, at, b'"') {
+        Some(at + 1)
+    } else {
+        None
+    }
+}
+
+/// The first members of an object: where their texts stand, and the place behind them.
+#[derive(Clone, Copy, Drop)]
+pub(crate) struct FirstMembers {
+    pub spans: Members<Span>,
+    pub at: usize,
+}
+
+/// Reads the first member of an object, in any spelling, or all seven of one that begins so.
+#[inline(always)]
+fn first_members(text: &[u8], object: usize, begun: Option<PlainFronts>) -> Option<FirstMembers>
+    requires printable { list_all is_printable text.now ≡ true }
+    requires inside { object < length text.now }
+    requires begun { IfSome begun (AreBegun text.now object) }
+    ensures { IfSome result (AreFirst text.now object) }
+{
+    match begun {
+        Some(fronts) => {
+            let at = behind_quote(text, fronts.end)?;
+            let spans = texts_behind(&fronts.at, fronts.end);
+            Some(FirstMembers { spans, at })
+        }
+        None => {
+            let mut spans = Members::all(NOWHERE);
+            let at = any_turn(text, object, &mut spans)?;
+            Some(FirstMembers { spans, at })
+        }
+    }
+}
+
+/// Returns where the texts of an object's members stand, if the object begins at a place and ends
+/// with the text, and its values are texts and whole numbers. It may decline any object.
+#[tactic(auto, using(crate::proofs::WrittenLaw::any_next, crate::proofs::WrittenLaw::written_stand, crate::proofs::WrittenLaw::written_walked))]
+pub(crate) fn members_at(
+    text: &[u8],
+    object: usize,
+    begun: Option<PlainFronts>,
+) -> Option<Members<Span>>
+    requires printable { list_all is_printable text.now ≡ true }
+    requires begun { IfSome begun (AreBegun text.now object) }
+    ensures { IfSome result (AreWalked text.now object) }
+{
+    if !byte_is(text, object, b'{') {
+        return None;
+    }
+    let first = first_members(text, object, begun)?;
+    let mut members = first.spans;
+    let mut at = first.at;
+    'members: while byte_is(text, at, b',') {
+        at = match front_at(text, at - 1) {
+            Some(member) => written_turn(text, at - 1, member, &mut members)?,
+            None => any_turn(text, at, &mut members)?,
+        };
+    }
+    if byte_is(text, at, b'}') && at + 1 == text.len() {
+        Some(members)
+    } else {
+        None
+    }
+}
