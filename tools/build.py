@@ -52,17 +52,19 @@ SECONDS = {
     "devices": 62,
     "index_core": 109,
     "merge_core": 165,
+    "outcomes": 60,
     "page_core": 65,
     "query_core": 190,
     "query_text": 116,
     "scan_core": 146,
     "source_core": 104,
-    "tasks": 440,
+    "tasks": 400,
     "warc_core": 90,
     "warc_head": 69,
 }
 OTHER_SECONDS = 80  # of a crate that isn't among these
 NEAR = 0.93  # of the longest chain: a chain of this part of it is as urgent
+SIGNAL_SECONDS = 0.5  # a wait's limit: Python doesn't run the handler of a signal that comes just before a wait begins until that wait ends
 
 
 class NotProved(Exception):
@@ -243,7 +245,7 @@ def build(crates: list[Crate], processors: int, builder: Builder) -> None:
                 say(f"{crate.name} begins; its log is {crate.log.relative_to(ROOT)}")
                 jobs = min(2, processors) if len(begun) == 1 and crate.name not in PROGRAMS else 1
                 running[pool.submit(builder.prove, crate, jobs, is_urgent)] = crate, is_urgent
-            for ended in wait(running, return_when=FIRST_COMPLETED).done:
+            for ended in wait(running, SIGNAL_SECONDS, FIRST_COMPLETED).done:
                 crate, _ = running.pop(ended)
                 seconds = ended.result()
                 proved.add(crate.name)

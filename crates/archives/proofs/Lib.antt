@@ -1,5 +1,6 @@
 pub mod Words
 pub mod RecordWalks
+pub mod ContentsLemmas
 pub mod PlainLemmas
 pub mod VerdictLemmas
 pub mod CaptureLemmas

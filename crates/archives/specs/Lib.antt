@@ -1,4 +1,5 @@
 pub mod Form
+pub mod Contents
 pub mod Packed
 pub mod Packing
 pub mod MemberReading

@@ -5,3 +5,4 @@ mod ShelfFiles
 mod ShelfOutcomes
 mod ShelfQueries
 mod ShelfReports
+mod ShelfRuns

@@ -1,8 +1,8 @@
 -- Files in memory as they are opened.
 use Rattle.std.proofs.Common.{◌≡◌, ℕ, List, Some, subst}
 use Rattle.command_line.specs.Commands.{Meaning}
-use Rattle.tasks.specs.declared.outcome.Outcome.{Outcome}
-use Rattle.tasks.specs.declared.outcome.Outcome.TheVariants as outcomes
+use Rattle.outcomes.specs.declared.outcome.Outcome.{Outcome}
+use Rattle.outcomes.specs.declared.outcome.Outcome.TheVariants as outcomes
 use Rattle.tasks.specs.Performing.{Openings, Performs}
 use Rattle.door_examples.specs.Archives.{a_archive}
 use Rattle.door_examples.specs.Scans.{plain_of}
@@ -10,13 +10,13 @@ use Rattle.door_examples.specs.Shelf.{shelf, query_line}
 use Rattle.door_examples.specs.Texts.{a_line}
 
 -- files with these bytes
-abbrev files : List ℕ → List ℕ → List ℕ → Openings
+abbrev pub files : List ℕ → List ℕ → List ℕ → Openings
 files archive index input = record {
   TellsArchive = λ name told. told ≡ plain_of archive;
   index_of = λ name. Some index;
   ArchiveFailed = λ name. ⊥;
   IndexFailed = λ name. ⊥;
-  input = Some input;
+  TellsInput = λ told. told ≡ Some input;
 }
 
 -- what a task does over files with the bytes of the shelf, it does over the shelf

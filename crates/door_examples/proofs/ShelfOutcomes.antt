@@ -1,11 +1,11 @@
 -- How a command over one file ends as done.
 use native.Mathlib.Omega.{arith}
 use Rattle.std.proofs.Common.{◌≡◌, ℕ, List, Bool, true, false, Option, Ok, Err, MatchBool, refl, sym}
-use Rattle.tasks.specs.declared.outcome.Outcome.{Outcome}
-use Rattle.tasks.specs.declared.outcome.Outcome.TheVariants as outcomes
+use Rattle.outcomes.specs.declared.outcome.Outcome.{Outcome}
+use Rattle.outcomes.specs.declared.outcome.Outcome.TheVariants as outcomes
 use Rattle.index_core.specs.Indexing.{Held}
 use Rattle.tasks.specs.Indexing.{WritesIndex}
-use Rattle.tasks.specs.Outcome.{ends_command, exit_status_of, worse_of}
+use Rattle.outcomes.specs.Outcome.{ends_command, exit_status_of, worse_of}
 
 -- an outcome that is no worse than done, is done
 worse_is_done : (ended : Outcome) → outcomes.Done ≡ worse_of outcomes.Done ended → ended ≡ outcomes.Done

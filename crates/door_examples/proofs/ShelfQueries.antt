@@ -1,7 +1,7 @@
 -- What the tasks on indexes write of an index in memory, and a scan of an archive in memory.
 use native.Mathlib.Omega.{arith}
 use lib.Utf8.{encode}
-use Rattle.std.proofs.Common.{◌≡◌, ◌∙◌, ℕ, List, [], ◌∷◌, ◌++◌, Some, None, Result, Ok, Err, MatchResult, IfOk, codes, refl, sym, ap, subst, inl, inr}
+use Rattle.std.proofs.Common.{◌≡◌, ◌∙◌, ℕ, List, [], ◌∷◌, ◌++◌, Some, None, Result, Ok, Err, MatchResult, IfErr, codes, refl, sym, ap, subst, inl, inr}
 use Rattle.std.specs.Fmt.{digits}
 use Rattle.std.specs.List.{AllZip}
 use Rattle.std.specs.Str.{is_utf8, chars}
@@ -12,7 +12,9 @@ use Rattle.cdxj_core.specs.declared.limit.TheConstants.{LINE_LIMIT}
 use Rattle.cdxj_core.specs.Fields.{field_named}
 use Rattle.cdxj_core.specs.Indexes.{IsIndex}
 use Rattle.cdxj_core.specs.Members.{Member, entry_member}
-use Rattle.merge_core.specs.Collections.{Merged, collection}
+use Rattle.merge_core.specs.Collections.{collection}
+use Rattle.merge_core.specs.SourceLines.{HoldsOfLines, WritesLines}
+use Rattle.merge_core.specs.Written.{lines_text}
 use Rattle.query_text.specs.declared.fault.QueryFault.{QueryFault}
 use Rattle.query_text.specs.declared.query.TheConstants.{QUERY_LIMIT}
 use Rattle.query_text.specs.Queries.{QueryValue, query_of}
@@ -22,20 +24,23 @@ use Rattle.query_core.specs.declared.fault.AnswerFault.{AnswerFault}
 use Rattle.query_core.specs.declared.report.Report.{Report}
 use Rattle.query_core.specs.Answering.{WritesAnswer}
 use Rattle.query_core.specs.Checking.{IsChecked}
-use Rattle.query_core.specs.Conversations.{Replied}
-use Rattle.query_core.specs.OneText.{MergeIsOne, PagesAreOne}
+use Rattle.devices.specs.LineCuts.{input_lines}
+use Rattle.query_core.specs.AnyReplies.{IsTextReply}
+use Rattle.query_core.specs.Conversations.{Converses}
+use Rattle.query_core.specs.OneText.{PagesAreOne, RepliesAreOne}
 use Rattle.query_core.specs.Paging.{WritesPages}
 use Rattle.query_core.specs.Replies.{replies, reply_of}
 use Rattle.scan_core.specs.declared.fault.ScanFault.{ScanFault}
 use Rattle.scan_core.specs.Laws.{ScanIsOne}
-use Rattle.scan_core.specs.Scanning.{Scanned}
+use Rattle.scan_core.specs.Scanning.{IsBeforeWriting, Scanned}
 use Rattle.index_core.specs.State.{ToldArchive}
 use Rattle.capture_core.specs.Types.{includes, usual_types}
 use Rattle.command_line.specs.Commands.{ToCheck, ToMerge, ToPages, ToQuery, ToScan, ToServe}
-use Rattle.tasks.specs.declared.outcome.Outcome.TheVariants as outcomes
+use Rattle.outcomes.specs.declared.outcome.Outcome.TheVariants as outcomes
 use Rattle.tasks.specs.Checks.{ChecksOne, WritesCount, checked_line}
 use Rattle.tasks.specs.Performing.{Performs}
-use Rattle.tasks.specs.Queries.{AnswersPages, AnswersQuery, answered_outcome}
+use Rattle.outcomes.specs.Outcome.{answered_outcome}
+use Rattle.tasks.specs.Queries.{AnswersPages, AnswersQuery}
 use Rattle.tasks.specs.Scanning.{scan_outcome}
 use Rattle.door_examples.specs.Archives.{a_archive, a_entry}
 use Rattle.door_examples.specs.Scans.{plain_of}
@@ -60,6 +65,14 @@ members = (member ∷ []) ∷ []
 check_text : checked_line index_name 1 ≡ codes "a.cdxj 1\n"
 unfolding digits
 check_text = refl
+
+-- what holds of lines of the index holds of its own
+of_index : {Holds : List Member → Type 0} → HoldsOfLines (Some a_line ∷ []) Holds → Holds (collection members)
+of_index {Holds = Holds} h = subst Holds (h.whole (a_line ∷ []) members (refl, tt) (line_is_index.read, tt)) h.holds
+
+merge_text : lines_text (collection ((member ∷ []) ∷ (member ∷ []) ∷ [])) ≡ a_line
+unfolding digits escape_byte
+merge_text = refl
 
 query_text : answer_text orgs (query_page orgs (collection members)) ≡ codes "org,a)/ 0\n"
 unfolding digits
@@ -93,15 +106,6 @@ module _ (before after : List ℕ) where
     count = refl;
   }
 
-  merge_written : Merged (a_line ∷ a_line ∷ []) (Some before) (Some (before ++ a_line)) 1
-  unfolding digits escape_byte
-  merge_written = record {
-    indexes = (member ∷ []) ∷ (member ∷ []) ∷ [];
-    are = (line_is_index.read, (line_is_index.read, tt));
-    text = refl;
-    count = refl;
-  }
-
   answered : (answer : Result Report AnswerFault) → outcomes.Done ≡ answered_outcome answer
       → WritesAnswer orgs (collection members) answer (Some before) (Some after) → after ≡ before ++ codes "org,a)/ 0\n"
   answered (Ok report) is page = page.text ∙ ap (λ t. before ++ t) query_text
@@ -110,27 +114,34 @@ module _ (before after : List ℕ) where
   paged : PagesAreOne → (answer : Result ℕ AnswerFault) → outcomes.Done ≡ answered_outcome answer
       → WritesPages orgs (collection members) (1 ∷ []) answer (Some before) (Some after)
       → after ≡ before ++ codes "org,a)/ 0\n"
-  paged one (Ok n) is pages = same_bytes _ _ (one (a_line ∷ []) members members orgs (1 ∷ []) before (Some after) (Some _) n 1
-      ((line_is_index.read, tt), (line_is_index.read, tt)) pages page_written).0
+  paged one (Ok n) is pages =
+      same_bytes _ _ (one orgs (collection members) (1 ∷ []) before (Some after) (Some _) n 1 pages page_written).0
   paged one (Err f) is pages = grind arith
 
-  merged : MergeIsOne → (answer : Result ℕ AnswerFault) → outcomes.Done ≡ answered_outcome answer
-      → IfOk answer (Merged (a_line ∷ a_line ∷ []) (Some before) (Some after)) → after ≡ before ++ a_line
-  merged one (Ok n) is merge = same_bytes _ _ (one (a_line ∷ a_line ∷ []) before (Some after) (Some _) n 1 merge
-      merge_written).0
-  merged one (Err f) is merge = grind arith
+  merged : (answer : Result ℕ AnswerFault) → outcomes.Done ≡ answered_outcome answer
+      → HoldsOfLines (Some a_line ∷ Some a_line ∷ []) (WritesLines (λ n. n) answer (Some before) (Some after))
+      → after ≡ before ++ a_line
+  merged (Ok n) is merge =
+      let whole = merge.whole (a_line ∷ a_line ∷ []) ((member ∷ []) ∷ (member ∷ []) ∷ []) (refl, (refl, tt))
+      (line_is_index.read, (line_is_index.read, tt)) in
+      merge.holds.0 ∙ ap (λ lines. before ++ lines_text lines) whole ∙ ap (λ t. before ++ t) merge_text
+  merged (Err f) is merge = grind arith
 
-  replied : (answer : Result ℕ AnswerFault) → outcomes.Done ≡ answered_outcome answer
-      → IfOk answer (λ count. Replied QUERY_LIMIT (reply_of QUERY_LIMIT (collection members)) (Some query_line) count
-      (Some before) (Some after)) → after ≡ before ++ codes "org,a)/\n.\n"
-  replied (Ok n) is (short, count, wrote) = wrote ∙ ap (λ t. before ++ t) serve_text
-  replied (Err f) is wrote = grind arith
+  replied : RepliesAreOne → (answer : Result ℕ AnswerFault) → outcomes.Done ≡ answered_outcome answer
+      → Converses QUERY_LIMIT (IsTextReply (Some a_line ∷ [])) answer (Some query_line) (Some before) (Some after)
+      → after ≡ before ++ codes "org,a)/\n.\n"
+  replied one (Ok n) is (short, count, texts, each, wrote) = wrote ∙ ap (λ t. before ++ t)
+      (one (Some a_line ∷ []) (input_lines query_line) texts each (a_line ∷ []) members (refl, tt) (line_is_index.read, tt) ∙ serve_text)
+  replied one (Err f) is wrote = grind arith
+
+  abbrev WroteScan : List ToldArchive → Result ℕ ScanFault → Type 0
+  WroteScan told answer = IfErr answer (λ fault. IsBeforeWriting fault → ⊥)
+      → Scanned (includes usual_types) (archive_name ∷ []) told (1 ∷ []) orgs_text answer (Some before) (Some after)
 
   scanned : ScanIsOne → (answer : Result ℕ ScanFault) → outcomes.Done ≡ scan_outcome answer
-      → IfOk answer (Scanned (includes usual_types) (archive_name ∷ []) (plain_of a_archive ∷ []) (1 ∷ []) orgs_text
-      (Some before) (Some after)) → after ≡ before ++ codes "org,a)/ 0\n"
+      → WroteScan (plain_of a_archive ∷ []) answer → after ≡ before ++ codes "org,a)/ 0\n"
   scanned one (Ok n) is scan = same_bytes _ _ (one (includes usual_types) (archive_name ∷ []) (a_archive ∷ [])
-      (plain_of a_archive ∷ []) (1 ∷ []) orgs_text before (Some after) (Some _) n 1 (refl, tt) scan (one_is_scanned before)).0
+      (plain_of a_archive ∷ []) (1 ∷ []) orgs_text before (Some after) (Some _) n 1 (refl, tt) (scan tt) (one_is_scanned before)).0
   scanned one (Err f) is scan = grind arith
 
   counted : HasOneList → (answer : Result ℕ AnswerFault) → IsChecked a_line answer
@@ -158,12 +169,11 @@ module _ (before after : List ℕ) (unchanged : Type 0) where
       outcomes.Done s) (sym d.1)
       (subst (λ o. ChecksOne shelf.index_of shelf.IndexFailed (Some before) index_name o next) d.0 step))
 
-  pub merges : MergeIsOne
-      → Performs shelf (Some before) (Some after) unchanged outcomes.Done (ToMerge (index_name ∷ index_name ∷ []))
+  pub merges : Performs shelf (Some before) (Some after) unchanged outcomes.Done (ToMerge (index_name ∷ index_name ∷ []))
       → after ≡ before ++ a_line
   unfolding Performs
-  merges one (inl m) = merged before after one m.answer m.outcome_is (m.merged (a_line ∷ a_line ∷ []) (refl, (refl, tt)))
-  merges one (inr unopened) = grind arith
+  merges (inl m) = merged before after m.answer m.outcome_is m.merged
+  merges (inr unopened) = grind arith
 
   pub queries : Performs shelf (Some before) (Some after) unchanged outcomes.Done (ToQuery orgs_text (index_name ∷ []))
       → after ≡ before ++ codes "org,a)/ 0\n"
@@ -171,7 +181,7 @@ module _ (before after : List ℕ) (unchanged : Type 0) where
   queries (inl (q, meaning, inl a)) =
       let b = subst (λ x. AnswersQuery x (Some a_line ∷ []) (Some before) (Some after) unchanged outcomes.Done)
       (orgs_is q meaning) a in
-      answered before after b.answer b.outcome_is (b.page (a_line ∷ []) members (refl, tt) (line_is_index.read, tt))
+      answered before after b.answer b.outcome_is (of_index b.page)
   queries (inl (q, meaning, inr unopened)) = grind arith
   queries (inr refused) = grind arith
 
@@ -182,16 +192,15 @@ module _ (before after : List ℕ) (unchanged : Type 0) where
   paginates one (inl (q, meaning, inl a)) =
       let b = subst (λ x. AnswersPages x (1 ∷ []) (Some a_line ∷ []) (Some before) (Some after) unchanged outcomes.Done)
       (orgs_is q meaning) a in
-      paged before after one b.answer b.outcome_is (b.pages (a_line ∷ []) members (refl, tt) (line_is_index.read, tt))
+      paged before after one b.answer b.outcome_is (of_index b.pages)
   paginates one (inl (q, meaning, inr unopened)) = grind arith
   paginates one (inr refused) = grind arith
 
-  pub serves : Performs shelf (Some before) (Some after) unchanged outcomes.Done (ToServe (index_name ∷ []))
+  pub serves : RepliesAreOne → Performs shelf (Some before) (Some after) unchanged outcomes.Done (ToServe (index_name ∷ []))
       → after ≡ before ++ codes "org,a)/\n.\n"
   unfolding Performs
-  serves (inl a) = replied before after a.answer a.outcome_is
-      (a.replies (a_line ∷ []) members (refl, tt) (line_is_index.read, tt))
-  serves (inr unopened) = grind arith
+  serves one (input, is, inl a) = replied before after one a.answer a.outcome_is (rw is at a.conversation)
+  serves one (input, is, inr unopened) = grind arith
 
   pub scans : ScanIsOne → Performs shelf (Some before) (Some after) unchanged outcomes.Done
       (ToScan usual_types None (1 ∷ []) orgs_text (archive_name ∷ [])) → after ≡ before ++ codes "org,a)/ 0\n"
@@ -200,12 +209,8 @@ module _ (before after : List ℕ) (unchanged : Type 0) where
     where
       only : (told : List ToldArchive)
           → AllZip (λ name archive. archive ≡ told_archive) (archive_name ∷ []) told
-          → IfOk s.answer (Scanned (includes usual_types) (archive_name ∷ []) told (1 ∷ []) orgs_text (Some before)
-          (Some after))
-          → IfOk s.answer (Scanned (includes usual_types) (archive_name ∷ []) (plain_of a_archive ∷ []) (1 ∷ []) orgs_text
-          (Some before) (Some after))
-      only (one ∷ []) (is, _) wrote = subst (λ a. IfOk s.answer (Scanned (includes usual_types) (archive_name ∷ []) (a ∷ [])
-          (1 ∷ []) orgs_text (Some before) (Some after))) is wrote
+          → WroteScan before after told s.answer → WroteScan before after (plain_of a_archive ∷ []) s.answer
+      only (one ∷ []) (is, _) wrote = subst (λ a. WroteScan before after (a ∷ []) s.answer) is wrote
       only other are wrote = grind arith
   scans one (inl (q, meaning, inr unopened)) = grind arith
   scans one (inr refused) = grind arith

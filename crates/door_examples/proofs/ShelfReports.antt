@@ -1,6 +1,6 @@
 -- What the tasks on archives write of an archive in memory.
 use native.Mathlib.Omega.{arith}
-use Rattle.std.proofs.Common.{◌≡◌, ◌∙◌, ℕ, List, [], ◌∷◌, ◌++◌, Option, Some, None, Result, Ok, Err, MatchBool, codes, refl, sym, ap, subst, inl, inr, append-nil}
+use Rattle.std.proofs.Common.{◌≡◌, ◌∙◌, ℕ, List, [], ◌∷◌, ◌++◌, Option, Some, None, Result, Ok, Err, MatchBool, codes, flat_map, refl, sym, ap, subst, inl, inr, append-nil}
 use Rattle.std.specs.Fmt.{digits}
 use Rattle.std.specs.Io.KnownBytes.{Appends}
 use Rattle.json.specs.Print.{escape_byte}
@@ -15,17 +15,17 @@ use Rattle.index_core.specs.Form.{ConsistsOf, Stored, plain, plain_record}
 use Rattle.index_core.specs.Laws.{OneIndexed, OneStands, PlainIsWhole, records_of}
 use Rattle.index_core.specs.Limits.{HEAD_LIMIT}
 use Rattle.index_core.specs.declared.fault.IndexFault.{IndexFault}
-use Rattle.index_core.specs.Listing.{listing_line, record_line}
-use Rattle.index_core.specs.Report.{report_lines}
-use Rattle.index_core.specs.Verifying.{verdict_line, verification_line}
+use Rattle.index_core.specs.Listing.{listing, record_line}
+use Rattle.index_core.specs.Report.{ReadTo, Wording, lines_of}
+use Rattle.index_core.specs.Verifying.{verdict_line, verification}
 use Rattle.command_line.specs.Commands.{ToGet, ToIndex, ToList, ToVerify}
-use Rattle.tasks.specs.declared.outcome.Outcome.{Outcome}
-use Rattle.tasks.specs.declared.outcome.Outcome.TheVariants as outcomes
+use Rattle.outcomes.specs.declared.outcome.Outcome.{Outcome}
+use Rattle.outcomes.specs.declared.outcome.Outcome.TheVariants as outcomes
 use Rattle.tasks.specs.declared.reports.ArchiveReport.{ArchiveReport}
 use Rattle.tasks.specs.declared.reports.ArchiveReport.TheVariants as reports
 use Rattle.tasks.specs.Fetching.{WritesRecord}
 use Rattle.tasks.specs.Indexing.{AddsArchive, AddsOne, WritesIndex, nothing_of}
-use Rattle.tasks.specs.Outcome.{ends_command, outcome_of}
+use Rattle.outcomes.specs.Outcome.{ends_command, outcome_of}
 use Rattle.tasks.specs.Performing.{Performs}
 use Rattle.tasks.specs.Opening.{WithTold}
 use Rattle.tasks.specs.Reports.{ReportsOn, ReportsOnOne, WritesBelow, WritesReport, heading_among}
@@ -42,11 +42,11 @@ a_record = plain_record a_view a_archive
 abbrev pub HasOneReading : Type 0
 HasOneReading = (limit : ℕ) (archive : List ℕ) → OneReading limit archive
 
-list_text : listing_line a_record ++ [] ≡ codes "0 201 resource\n"
+list_text : lines_of listing (a_record ∷ []) ≡ codes "0 201 resource\n"
 unfolding digits record_line
 list_text = refl
 
-verify_text : verification_line a_record ++ [] ≡ codes "0 absent\n"
+verify_text : lines_of verification (a_record ∷ []) ≡ codes "0 absent\n"
 unfolding digits value_of verdict_line
 verify_text = refl
 
@@ -67,20 +67,31 @@ over_told Done (told, is, done) = subst Done is done
 
 -- ---- reports
 
+-- all that a report says of the archive
+said_all : {A X : Type 0} (words : Wording A X) → HasOneReading → PlainIsWhole → (items : List X) (end : ℕ)
+    → ReadTo (plain HEAD_LIMIT) words (Some a_archive) items end
+    (λ rest. (plain HEAD_LIMIT).next end rest ≡ Ok (None, []))
+    → flat_map words.line items ≡ lines_of words (a_record ∷ [])
+said_all words one whole items end read =
+    let k = read.known in
+    let says = k.1 in
+    ap (flat_map words.line) says.2 ∙ ap (lines_of words) (records_are one whole says.0 (record {
+      end = end;
+      rest = k.0;
+      walks = says.1;
+      ended = k.2;
+    }))
+
 listed : HasOneReading → PlainIsWhole → (start after : List ℕ) → WritesReport reports.Listing told_archive outcomes.Done (Some start)
     (Some after) → after ≡ start ++ codes "0 201 resource\n"
-listed one whole start after (Ok n, is, lists) =
-    let r = lists.report in
-    r.3 ∙ ap (λ records. start ++ report_lines listing_line records) (records_are one whole r.0 r.1)
-    ∙ ap (λ t. start ++ t) list_text
+listed one whole start after (Ok n, is, (items, end, read, tally, wrote)) =
+    wrote ∙ ap (λ t. start ++ t) (said_all listing one whole items end read ∙ list_text)
 listed one whole start after (Err f, is, lists) = grind arith
 
 verified : HasOneReading → PlainIsWhole → (start after : List ℕ) → WritesReport reports.Verdicts told_archive outcomes.Done
     (Some start) (Some after) → after ≡ start ++ codes "0 absent\n"
-verified one whole start after (Ok v, is, verifies) =
-    let r = verifies.report in
-    r.3 ∙ ap (λ records. start ++ report_lines verification_line records) (records_are one whole r.0 r.1)
-    ∙ ap (λ t. start ++ t) verify_text
+verified one whole start after (Ok v, is, (items, end, read, tally, wrote)) =
+    wrote ∙ ap (λ t. start ++ t) (said_all verification one whole items end read ∙ verify_text)
 verified one whole start after (Err f, is, verifies) = grind arith
 
 module _ (report : ArchiveReport) (text before after : List ℕ)
@@ -171,7 +182,7 @@ unfolding Performs
 indexes one before after unchanged (held, reached, (ended, next, step, rest), write) =
     let w = added_done reached unchanged held (Some before) (Some after) write in
     let d = one_done ended next held (subst (λ r. MatchBool (ends_command ended) ((r ≡ ended) × (held ≡ next))
-    ((r ≡ Rattle.tasks.specs.Outcome.worse_of outcomes.Done ended) × (held ≡ next))) w.0 rest) in
+    ((r ≡ Rattle.outcomes.specs.Outcome.worse_of outcomes.Done ended) × (held ≡ next))) w.0 rest) in
     indexed before after held reached (added one held (subst (λ s. AddsOne shelf.TellsArchive shelf.ArchiveFailed
     None (nothing_of usual_types) archive_name outcomes.Done s) (sym d.1)
     (subst (λ o. AddsOne shelf.TellsArchive shelf.ArchiveFailed None (nothing_of usual_types) archive_name o next) d.0 step))) w.1

@@ -1,5 +1,5 @@
 -- A scan of two archives, and the text that it writes.
-use Rattle.std.specs.Prelude.{ℕ, List, [], ◌∷◌, ◌++◌, codes, Some}
+use Rattle.std.specs.Prelude.{ℕ, List, [], ◌∷◌, ◌++◌, codes, Some, Ok}
 use Rattle.index_core.specs.Packing.{Plain}
 use Rattle.index_core.specs.State.{ToldArchive}
 use Rattle.capture_core.specs.Types.{includes, usual_types}
@@ -20,13 +20,13 @@ plain_of bytes = record { packing = Plain; bytes = Some bytes }
 abbrev pub TwoAreScanned : Type 0
 TwoAreScanned =
     Scanned (includes usual_types) (codes "b.warc" ∷ codes "a.warc" ∷ []) (plain_of b_archive ∷ plain_of a_archive ∷ [])
-    (1 ∷ []) orgs_text (Some []) (Some scanned_text) 2
+    (1 ∷ []) orgs_text (Ok 2) (Some []) (Some scanned_text)
 
 -- The scan of the first archive alone writes one page, behind what there was.
 abbrev pub OneIsScanned : List ℕ → Type 0
 OneIsScanned before =
-    Scanned (includes usual_types) (codes "a.warc" ∷ []) (plain_of a_archive ∷ []) (1 ∷ []) orgs_text (Some before)
-    (Some (before ++ codes "org,a)/ 0\n")) 1
+    Scanned (includes usual_types) (codes "a.warc" ∷ []) (plain_of a_archive ∷ []) (1 ∷ []) orgs_text (Ok 1) (Some before)
+    (Some (before ++ codes "org,a)/ 0\n"))
 
 -- Nothing is at fault that is asked of the scan, and a device that never failed may fail.
 pub record TwoAreScannable : Type 0 where

@@ -31,7 +31,7 @@ shelf = record {
   index_of = λ name. Some a_line;
   ArchiveFailed = λ name. ⊥;
   IndexFailed = λ name. ⊥;
-  input = Some query_line;
+  TellsInput = λ told. told ≡ Some query_line;
 }
 
 -- what a task has written that ended as done
@@ -47,3 +47,10 @@ pub record WritesOfShelf (task : Meaning) (before after : List ℕ) : Type 0 whe
   pub get : task ≡ ToGet None 0 archive_name → after ≡ before ++ a_archive
   pub scan : task ≡ ToScan usual_types None (1 ∷ []) orgs_text (archive_name ∷ [])
       → after ≡ before ++ codes "org,a)/ 0\n"
+
+-- what the program has written that ended with the status 0, by its arguments
+pub record RunsOfShelf (words : List (List ℕ)) (before after : List ℕ) : Type 0 where
+  pub list : words ≡ codes "list" ∷ archive_name ∷ [] → after ≡ before ++ codes "0 201 resource\n"
+  pub verify : words ≡ codes "verify" ∷ archive_name ∷ [] → after ≡ before ++ codes "0 absent\n"
+  pub query : words ≡ codes "query" ∷ orgs_text ∷ index_name ∷ [] → after ≡ before ++ codes "org,a)/ 0\n"
+  pub unknown : words ≡ codes "lst" ∷ archive_name ∷ [] → ⊥

@@ -31,9 +31,9 @@ pub fn write_pages<A: Archive, O: Output>(
     out: &mut O,
 ) -> Result<u64, ScanFault>
     requires { AllByRecursion (λ n. IsUnread (A.state n.archive)) archives.old }
-    ensures pages { IfOk result
-        (Scanned (includes usual_types) (map (λ n. string_bytes n.name) archives.old)
-        (map (λ n. told_of (A.state n.archive)) archives.old) (100 ∷ []) query.now
+    ensures pages { IfOk result (λ _. Scanned (includes usual_types)
+        (map (λ n. string_bytes n.name) archives.old)
+        (map (λ n. told_of (A.state n.archive)) archives.old) (100 ∷ []) query.now result
         (O.written out.old) (O.written out.new)) }
 {
     scan(alloc, archives, Types::usual(), &[100], query, out)

@@ -1,18 +1,21 @@
 -- An archive of either form is one list of records, up to its end or to its fault.
 use Rattle.archives.specs.Packing.{form_to}
 use Rattle.archives.proofs.PackingLemmas.{forms_lawful}
-use Rattle.archives.proofs.RecordWalks as walks
-use Rattle.index_core.specs.RecordLaws.{NotBoth, OneFault, OneList, RecordsOrFault}
+use Rattle.archives.proofs.ContentsLemmas.{contents_broken, contents_whole, walked}
+use Rattle.index_core.specs.RecordLaws.{IsReadToFault, IsReadWhole}
 
-pub one_list : OneList
-one_list limit packing archive these those v w = walks.one_list (form_to limit packing) archive these those v w
+pub is_read_whole : IsReadWhole
+is_read_whole limit packing archive records = (
+  contents_whole (form_to limit packing) (forms_lawful limit packing) archive records,
+  λ e.
+      let w = rw e at (walked (form_to limit packing) (forms_lawful limit packing) archive) in
+      record { end = w.end; rest = w.rest; walks = w.walks; ended = w.stops },
+)
 
-pub one_fault : OneFault
-one_fault limit packing archive these those this that v w =
-    walks.one_fault (form_to limit packing) archive these those this that v w
-
-pub not_both : NotBoth
-not_both limit packing archive these those f v w = walks.not_both (form_to limit packing) archive these those f v w
-
-pub records_or_fault : RecordsOrFault
-records_or_fault limit packing archive = walks.total (form_to limit packing) (forms_lawful limit packing) archive
+pub is_read_to_fault : IsReadToFault
+is_read_to_fault limit packing archive records f = (
+  contents_broken (form_to limit packing) (forms_lawful limit packing) archive records f,
+  λ e.
+      let w = rw e at (walked (form_to limit packing) (forms_lawful limit packing) archive) in
+      record { end = w.end; rest = w.rest; walks = w.walks; refused = w.stops },
+)

@@ -3,7 +3,6 @@ mod ArchiveWalks
 mod PlainArchives
 pub mod ComingLemmas
 pub mod ReportLemmas
-pub mod ListingLemmas
 pub mod VerdictLemmas
 mod IndexLemmas
 mod AddingLemmas

@@ -6,7 +6,7 @@ use Rattle.index_core.proofs.Words.{AreCaptured, IsTaken, IsAcceptedTo, IsFailur
 use Rattle.capture_core.specs.declared.fault.CaptureFault.TheVariants.{LineTooLong, KeyTooLong}
 use Rattle.capture_core.proofs.Captures.{one_capture}
 use Rattle.index_core.specs.Adding.{Adds}
-use Rattle.archives.specs.Form.{Form, Stored, WalksOver}
+use Rattle.archives.specs.Form.{Form, IsLawful, Stored, WalksOver}
 use Rattle.archives.specs.Packing.{form_to}
 use Rattle.index_core.specs.Indexing.{Held}
 use Rattle.index_core.specs.Laws.{IsNoFaultOfArchive}
@@ -14,11 +14,13 @@ use Rattle.index_core.specs.OneText.{HasFirst, AddsOneList, AddsFirst, WritesOne
 use Rattle.index_core.specs.OneText.{WritesIndexFront}
 use Rattle.index_core.proofs.AcceptedLemmas.{all_taken, as_whole, captured_once, each_behind}
 use Rattle.index_core.proofs.AcceptedLemmas.{no_long_line, not_refused, one_accepted}
-use Rattle.archives.proofs.RecordWalks.{GoesOnFrom, two_walks, walk_extends}
+use Rattle.archives.proofs.ContentsLemmas.{whole_over}
+use Rattle.archives.proofs.PackingLemmas.{forms_lawful}
+use Rattle.archives.proofs.RecordWalks.{GoesOnFrom, two_walks}
 use Rattle.index_core.proofs.OneTextLemmas.{grown, has_front, found}
 use Rattle.index_core.specs.declared.fault.IndexFault.TheVariants as faults
 
-module _ (types : Kind → Bool) (limits : Limits) (form : Form) (name archive : List ℕ) where
+module _ (types : Kind → Bool) (limits : Limits) (form : Form) (law : IsLawful form) (name archive : List ℕ) where
   -- where an archive is refused, no walk over records that are taken goes on
   no_further : (fault : CaptureFault) (gained : List EntryValue) (more : List Stored) (p : ℕ) (t : List ℕ)
       → (IsNoFaultOfArchive fault → ⊥) → (v : IsAcceptedTo types limits form name fault archive gained)
@@ -87,12 +89,12 @@ module _ (types : Kind → Bool) (limits : Limits) (form : Form) (name archive :
       → Adds types limits form name (Some archive) old new this
       → Adds types limits form name (Some archive) old other that → (this ≡ that) × (new ≡ other)
   adds_once old new other (Ok n) (Ok m) i j (a, e, g) (b, f, h) =
-      let same = one_accepted types limits form name archive a b g.2 h.2 in (cc, cc)
+      let same = one_accepted types limits form name law archive a b g.2 h.2 in (cc, cc)
   adds_once old new other (Ok n) (Err (faults.Capture fault)) i j (a, e, g) (b, f, h) = absurd (j (
-      not_refused types limits form name archive fault b (as_whole types limits form name archive a g.2) h.1
+      not_refused types limits form name law archive fault b (as_whole types limits form name law archive a g.2) h.1
       ))
   adds_once old new other (Err (faults.Capture fault)) (Ok m) i j (a, e, g) (b, f, h) = absurd (i (
-      not_refused types limits form name archive fault a (as_whole types limits form name archive b h.2) g.1
+      not_refused types limits form name law archive fault a (as_whole types limits form name law archive b h.2) g.1
       ))
   adds_once old new other (Err (faults.Capture fault)) (Err (faults.Capture second)) i j (a, e, g) (b, f, h) =
       let same = one_refusal fault second a b i j g.1 h.1 in
@@ -114,9 +116,8 @@ module _ (types : Kind → Bool) (limits : Limits) (form : Form) (name archive :
       → Adds types limits form name (Some archive) old new this
       → Adds types limits form name (Some archive) old other that → HasFirst name old new other that
   added_first old new other (Ok n) (Err (faults.Capture fault)) i j (a, e, g) (b, f, h) =
-      let m = walk_extends form 0 archive h.1.records g.2.records h.1.end g.2.whole.end h.1.rest g.2.whole.rest h.1.walks
-      g.2.whole.walks (inl g.2.whole.ended) in
-      let t = first_captures h.1.records m.0 b a h.1.captured (rw m.1 at g.2.captured) in
+      let same = whole_over form law archive g.2.records g.2.whole h.1.records h.1.end h.1.rest h.1.walks in
+      let t = first_captures h.1.records _ b a h.1.captured (rw same at g.2.captured) in
       grind arith
   added_first old new other (Err (faults.Capture first)) (Err (faults.Capture fault)) i j (a, e, g) (b, f, h) =
       let m = refusal_extends first a h.1.records h.1.end h.1.rest i g.1 h.1.walks
@@ -127,11 +128,11 @@ module _ (types : Kind → Bool) (limits : Limits) (form : Form) (name archive :
 
 pub adds_one_list : AddsOneList
 adds_one_list types limits limit packing name archive =
-    adds_once types limits (form_to limit packing) name archive
+    adds_once types limits (form_to limit packing) (forms_lawful limit packing) name archive
 
 pub adds_first : AddsFirst
 adds_first types limits limit packing name archive =
-    added_first types limits (form_to limit packing) name archive
+    added_first types limits (form_to limit packing) (forms_lawful limit packing) name archive
 
 -- ---- the index that is written
 

@@ -12,7 +12,9 @@ use Rattle.gzip_members.specs.Laws.{in_a_row}
 use Rattle.archives.specs.Captures.{IsCaptureFrom}
 use Rattle.archives.specs.Form.{Stored, plain}
 use Rattle.archives.specs.Packed.{packed}
-use Rattle.archives.proofs.RecordWalks.{one_list}
+use Rattle.archives.proofs.ContentsLemmas.{one_list}
+use Rattle.archives.proofs.PackingLemmas.{forms_lawful}
+use Rattle.archives.specs.Packing.{Packed, Plain}
 use Rattle.index_core.specs.PackedLaws.{ArePacked, FitsAnywhere, MembersAreAccepted, MembersHaveCaptures}
 use Rattle.index_core.specs.PackedLaws.{at_place, from_start, in_member, in_members, without_place}
 use Rattle.index_core.proofs.PackedRowLemmas.{members_are_records}
@@ -89,16 +91,16 @@ module _ (types : Kind → Bool) (limits : Limits) (name : List ℕ) where
 
 pub members_have_captures : MembersHaveCaptures
 members_have_captures types limits limit name archive records members captures others whole a v w =
-    let plainly = one_list (plain limit) archive v.records records v.whole whole in
+    let plainly = one_list (plain limit) (forms_lawful limit Plain) archive v.records records v.whole whole in
     let row = members_are_records limit archive records members whole a in
-    let packedly = one_list (packed limit) (in_a_row members) w.records (in_members 0 records members) w.whole row in
+    let packedly = one_list (packed limit) (forms_lawful limit Packed) (in_a_row members) w.records (in_members 0 records members) w.whole row in
     captures_same types limits name limit archive 0 records members captures others a
     (subst (λ rs. AreCaptured types limits (plain limit) name rs captures) plainly v.captured)
     (subst (λ rs. AreCaptured types limits (packed limit) name rs others) packedly w.captured)
 
 pub members_are_accepted : MembersAreAccepted
 members_are_accepted types limits limit name archive records members captures whole a small v fits =
-    let plainly = one_list (plain limit) archive v.records records v.whole whole in
+    let plainly = one_list (plain limit) (forms_lawful limit Plain) archive v.records records v.whole whole in
     let c = captures_fit types limits name limit archive 0 records members captures a
     (subst (λ rs. AreCaptured types limits (plain limit) name rs captures) plainly v.captured) fits (omega (arith, small)) in
     (c.0, record { records = in_members 0 records members; whole = members_are_records limit archive records members whole a; captured = c.1 })

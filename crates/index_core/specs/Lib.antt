@@ -20,6 +20,7 @@ pub mod OneText
 pub mod Limits
 -- what contracts see of archives
 pub use Rattle.archives.specs.Captures
+pub use Rattle.archives.specs.Contents
 pub use Rattle.archives.specs.Form
 pub use Rattle.archives.specs.Packing
 pub use Rattle.archives.specs.Plain

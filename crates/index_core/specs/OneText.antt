@@ -1,5 +1,7 @@
 -- Laws that what is known of an archive decides what a call answers and writes.
 use Rattle.std.specs.Prelude.{◌≡◌, ℕ, ⊤, ◌⊎◌, Bool, List, ◌++◌, Option, Some, Result, Ok, Err, IfErr}
+use Rattle.std.specs.Io.KnownBytes.{Appends}
+use Rattle.devices.specs.Device.{AppendsPrefix}
 use Rattle.devices.specs.Writing.{WritesText}
 use Rattle.warc_core.specs.declared.fault.Fault.{Fault}
 use Rattle.warc_core.specs.Kind.{Kind}
@@ -11,12 +13,11 @@ use Rattle.index_core.specs.declared.fault.IndexFault.TheVariants as faults
 use Rattle.index_core.specs.Adding.{Adds, with_archive}
 use Rattle.index_core.specs.Fetching.{Fetches, IsMetBefore}
 use Rattle.index_core.specs.FetchingAt.{FetchesAt}
+use Rattle.archives.specs.Contents.{contents}
 use Rattle.archives.specs.Packing.{Packing, form_to}
 use Rattle.index_core.specs.Indexing.{Held, index_text}
 use Rattle.index_core.specs.Laws.{IsNoFaultOfArchive}
-use Rattle.index_core.specs.Listing.{Lists}
-use Rattle.index_core.specs.Report.{IsNoDamage, fault_line}
-use Rattle.index_core.specs.Verifying.{Verifies}
+use Rattle.index_core.specs.Report.{IsNoDamage, Reports, Wording, fault_line, report_answer, report_text}
 
 -- The archive isn't the reason of the result: a device failed, there was no memory, a key is too long, or the archive's
 -- name was refused.
@@ -37,47 +38,24 @@ HasFront before whole part = (front : List ℕ) × (more : List ℕ) × (whole �
 
 -- ---- reports
 
--- Behind what there was, the one output has a text, and the other a front of it and the line of this fault.
-abbrev pub HasCut : List ℕ → Fault → Option (List ℕ) → Option (List ℕ) → Type 0
-HasCut before f whole part = (front : List ℕ) × (more : List ℕ) × (whole ≡ Some (before ++ (front ++ more)))
-    × (part ≡ Some (before ++ (front ++ fault_line f)))
+-- What of a report was written by a call that failed, by its result: a front, and the line of the fault. If the output
+-- failed, a front of this or of the report.
+abbrev pub WritesPart : {A : Type 0} → List ℕ → Result A IndexFault → Option (List ℕ) → Option (List ℕ) → Type 0
+WritesPart text (Err (faults.Capture (Archive f))) before after =
+    (front : List ℕ) × (more : List ℕ) × (text ≡ front ++ more) × Appends before after (front ++ fault_line f)
+WritesPart text (Err faults.Write) before after = AppendsPrefix before after text
+    ⊎ ((f : Fault) × IsNoDamage f.cause × (front : List ℕ) × (more : List ℕ) × (text ≡ front ++ more)
+    × AppendsPrefix before after (front ++ fault_line f))
+WritesPart text result before after = ⊥
 
--- what of a report was written by a call that failed, by its answer
-abbrev pub HasPart : {A : Type 0} → List ℕ → Result A IndexFault → Option (List ℕ) → Option (List ℕ) → Type 0
-HasPart before (Err (faults.Capture (Archive f))) whole part = HasCut before f whole part
-HasPart before (Err faults.Write) whole part = HasFront before whole part
-    ⊎ ((f : Fault) × (cut : Option (List ℕ)) × IsNoDamage f.cause × HasCut before f whole cut
-    × HasFront before cut part)
-HasPart before result whole part = ⊥
-
--- A call that promises this of its result and its output answers and writes one thing for an archive.
-abbrev pub PromisesOneText : {A : Type 0} → (Result A IndexFault → Option (List ℕ) → Option (List ℕ) → Type 0) → Type 0
-PromisesOneText {A} promise = (before : List ℕ) (this that : Result A IndexFault) (text other : Option (List ℕ))
-    → IsOfArchive this → IsOfArchive that → promise this (Some before) text → promise that (Some before) other
-    → (this ≡ that) × (text ≡ other)
-
--- If it fails, it has written a part of that.
-abbrev pub PromisesPart : {A : Type 0} → (Result A IndexFault → Option (List ℕ) → Option (List ℕ) → Type 0) → Type 0
-PromisesPart {A} promise = (before : List ℕ) (this that : Result A IndexFault) (text other : Option (List ℕ))
-    → IsOfArchive this → IsFailure that → promise this (Some before) text → promise that (Some before) other
-    → HasPart before that text other
-
--- of a report on an archive there is one text
-abbrev pub ListsOneText : Type 0
-ListsOneText = (limit : ℕ) (packing : Packing) (archive : List ℕ)
-    → PromisesOneText (Lists (form_to limit packing) (Some archive))
-
-abbrev pub ListsPart : Type 0
-ListsPart = (limit : ℕ) (packing : Packing) (archive : List ℕ)
-    → PromisesPart (Lists (form_to limit packing) (Some archive))
-
-abbrev pub VerifiesOneText : Type 0
-VerifiesOneText = (limit : ℕ) (packing : Packing) (archive : List ℕ)
-    → PromisesOneText (Verifies (form_to limit packing) (Some archive))
-
-abbrev pub VerifiesPart : Type 0
-VerifiesPart = (limit : ℕ) (packing : Packing) (archive : List ℕ)
-    → PromisesPart (Verifies (form_to limit packing) (Some archive))
+-- A call that reports on an archive has answered and written this report, or a part of it where a device failed or there
+-- was no memory.
+abbrev pub IsReport : {A X : Type 0} → Wording A X → Type 0
+IsReport {A} words = (limit : ℕ) (packing : Packing) (archive : List ℕ) (result : Result A IndexFault)
+    (before after : Option (List ℕ)) → Reports (form_to limit packing) words (Some archive) result before after
+    → (IsOfArchive result → (result ≡ report_answer words (contents (form_to limit packing) 0 archive))
+    × Appends before after (report_text words (contents (form_to limit packing) 0 archive)))
+    × (IsFailure result → WritesPart (report_text words (contents (form_to limit packing) 0 archive)) result before after)
 
 -- ---- the record at an offset
 

@@ -1,6 +1,6 @@
 -- A report on an archive: a line for each of its records, and one for its fault.
-use Rattle.std.specs.Prelude.{◌≡◌, ℕ, ◌+◌, ⊤, ◌⊎◌, List, ◌++◌, flat_map, Option, None, Some, Result, Ok, Err}
-use Rattle.std.specs.Prelude.{codes, decimal}
+use Rattle.std.specs.Prelude.{◌≡◌, ℕ, ◌+◌, ⊤, ◌⊎◌, List, [], ◌++◌, flat_map, Option, None, Some, Result, Ok, Err}
+use Rattle.std.specs.Prelude.{IfSome, codes, decimal, map}
 use Rattle.std.specs.Io.KnownBytes.{Appends}
 use Rattle.warc_core.specs.declared.fault.Cause.{Cause}
 use Rattle.warc_core.specs.declared.fault.Cause.TheVariants as causes
@@ -12,84 +12,76 @@ use Rattle.warc_core.specs.HeadView.{HeadView, record_length}
 use Rattle.warc_core.specs.ReaderView.{ReaderView, StandsAt}
 use Rattle.capture_core.specs.declared.fault.CaptureFault.TheVariants.{Archive}
 use Rattle.index_core.specs.declared.fault.IndexFault.{IndexFault}
-use Rattle.archives.specs.Form.{Form, Placed, Stored, BreaksAfter, ConsistsOf, Follow, IsPossibleFault, WalksOver}
+use Rattle.archives.specs.Contents.{ArchiveContents}
+use Rattle.archives.specs.Form.{Form, Placed, Stored, Follow, IsPossibleFault, WalksOver}
 use Rattle.index_core.specs.declared.fault.IndexFault.TheVariants as faults
-
--- what a report says of a record
-abbrev pub RecordLine : Type 0
-RecordLine = Stored → List ℕ
-
--- the lines of these records
-abbrev pub report_lines : RecordLine → List Stored → List ℕ
-report_lines line records = flat_map line records
 
 -- `fault OFFSET CAUSE`
 unfoldable pub fault_line : Fault → List ℕ
 fault_line f = codes "fault " ++ decimal f.offset ++ codes " " ++ cause_name f.cause ++ codes "\n"
 
--- the text is the report on the archive: its records, or those before its damage and the damage
-abbrev pub IsReport : Form → RecordLine → List ℕ → List ℕ → Type 0
-IsReport form line archive text =
-    ((records : List Stored) × ConsistsOf form archive records × (text ≡ report_lines line records))
-    ⊎ ((records : List Stored) × (f : Fault) × BreaksAfter form archive records f
-    × (text ≡ report_lines line records ++ fault_line f))
-
 -- the cause isn't the archive's
 abbrev pub IsNoDamage : Cause → Type 0
 IsNoDamage cause = (cause ≡ causes.Memory) ⊎ (cause ≡ causes.Read)
 
--- the text is the report up to a record that couldn't be read, for want of memory or by the input's failure
-abbrev pub IsCutReport : Form → RecordLine → List ℕ → List ℕ → Type 0
-IsCutReport form line archive text =
-    (records : List Stored) × (f : Fault) × (end : ℕ) × (rest : List ℕ) × IsNoDamage f.cause
-    × WalksOver form 0 archive records end rest × form.Follows end f.offset
-    × (text ≡ report_lines line records ++ fault_line f)
+-- What a report says of each record: the record's place and head, its line, the answer for all, and what is said of a
+-- stored record.
+pub record Wording (A X : Type 0) : Type 0 where
+  pub placed : X → Placed
+  pub line : X → List ℕ
+  pub tally : List X → A
+  pub said : Stored → X
 
--- The lines of all records of the archive were written, where it is known, and the answer is their tally.
-abbrev pub Reported : {A : Type 0} → Form → RecordLine → (List Stored → A) → Option (List ℕ) → A
-    → Option (List ℕ) → Option (List ℕ) → Type 0
-Reported form line tally None answer before after = ⊤
-Reported form line tally (Some archive) answer before after =
-    (records : List Stored) × ConsistsOf form archive records × (answer ≡ tally records)
-    × Appends before after (report_lines line records)
+-- the lines of what is said of these records
+abbrev pub lines_of : {A X : Type 0} → Wording A X → List Stored → List ℕ
+lines_of words records = flat_map words.line (map words.said records)
 
--- The lines of the records before the fault were written, and the fault's line.
-abbrev pub ReportedToFault : Form → RecordLine → Option (List ℕ) → Fault → Option (List ℕ) → Option (List ℕ) → Type 0
-ReportedToFault form line None f before after = ⊤
-ReportedToFault form line (Some archive) f before after =
-    (records : List Stored) × (end : ℕ) × (rest : List ℕ) × WalksOver form 0 archive records end rest
-    × IsPossibleFault form end rest f
-    × Appends before after (report_lines line records ++ fault_line f)
+-- the line of a fault, if there is one
+abbrev pub fault_text : Option Fault → List ℕ
+fault_text None = []
+fault_text (Some f) = fault_line f
 
--- A prefix of the report was written.
-abbrev pub ReportedInPart : Form → RecordLine → Option (List ℕ) → Option (List ℕ) → Option (List ℕ) → Type 0
-ReportedInPart form line None before after = ⊤
-ReportedInPart form line (Some archive) before after =
-    (text : List ℕ) × (IsReport form line archive text ⊎ IsCutReport form line archive text)
-    × AppendsPrefix before after text
+-- the answer, unless a fault ends the report
+abbrev pub ends_with : {A : Type 0} → A → Option Fault → Result A IndexFault
+ends_with answer None = Ok answer
+ends_with answer (Some f) = Err (faults.Capture (Archive f))
 
--- What a call wrote that reports on an archive, by its answer.
-abbrev pub Reports : {A : Type 0} → Form → RecordLine → (List Stored → A) → Option (List ℕ)
-    → Result A IndexFault → Option (List ℕ) → Option (List ℕ) → Type 0
-Reports form line tally left (Ok answer) before after = Reported form line tally left answer before after
-Reports form line tally left (Err (faults.Capture (Archive f))) before after = ReportedToFault form line left f before
-    after
-Reports form line tally left (Err faults.Write) before after = ReportedInPart form line left before after
-Reports form line tally left (Err other) before after = ⊥
+-- what a report answers and writes on an archive that is read as this
+abbrev pub report_answer : {A X : Type 0} → Wording A X → ArchiveContents → Result A IndexFault
+report_answer words c = ends_with (words.tally (map words.said c.records)) c.fault
 
--- What a call wrote that reports on an archive of any bytes, by its answer: lines of records that follow one another
--- from the offset 0, and the line of a fault that follows them.
-abbrev pub ReportsRecords : {A X : Type 0} → Form → (X → Placed) → (X → List ℕ) → (List X → A) → Result A IndexFault
-    → Option (List ℕ) → Option (List ℕ) → Type 0
-ReportsRecords {X = X} form placed line tally (Ok answer) before after =
-    (items : List X) × (end : ℕ) × Follow form placed 0 items end × (answer ≡ tally items)
-    × Appends before after (flat_map line items)
-ReportsRecords {X = X} form placed line tally (Err (faults.Capture (Archive f))) before after =
-    (items : List X) × Follow form placed 0 items f.offset × Appends before after (flat_map line items ++ fault_line f)
-ReportsRecords {X = X} form placed line tally (Err faults.Write) before after =
-    (items : List X) × (f : Fault) × Follow form placed 0 items f.offset
-    × AppendsPrefix before after (flat_map line items ++ fault_line f)
-ReportsRecords form placed line tally (Err other) before after = ⊥
+abbrev pub report_text : {A X : Type 0} → Wording A X → ArchiveContents → List ℕ
+report_text words c = lines_of words c.records ++ fault_text c.fault
+
+module _ {A X : Type 0} (form : Form) (words : Wording A X) where
+  -- this is said of the first records of the archive; what comes next is found from `end` on, where these bytes are left
+  abbrev pub SaysOf : List ℕ → List X → ℕ → List ℕ → Type 0
+  SaysOf archive items end rest =
+      (records : List Stored) × WalksOver form 0 archive records end rest × (items ≡ map words.said records)
+
+  -- This is said of records that follow one another up to `end`. If the archive is known, they are its first, and of the
+  -- bytes behind them this holds.
+  pub record ReadTo (left : Option (List ℕ)) (items : List X) (end : ℕ) (Behind : List ℕ → Type 0) : Type 0 where
+    pub follow : Follow form words.placed 0 items end
+    pub known : IfSome left (λ archive. (rest : List ℕ) × SaysOf archive items end rest × Behind rest)
+
+  -- they are followed by this fault: for want of memory, by the input's failure, or because the archive is damaged
+  abbrev pub ReadToFault : Option (List ℕ) → List X → Fault → Type 0
+  ReadToFault left items f = (end : ℕ) × form.Follows end f.offset
+      × ReadTo left items end (λ rest. IsPossibleFault form end rest f)
+
+  -- What a call wrote that reports on an archive, by its answer: the lines of all records; the lines of those before a
+  -- fault, and the fault's line; or a prefix of that.
+  abbrev pub Reports : Option (List ℕ) → Result A IndexFault → Option (List ℕ) → Option (List ℕ) → Type 0
+  Reports left (Ok answer) before after =
+      (items : List X) × (end : ℕ) × ReadTo left items end (λ rest. form.next end rest ≡ Ok (None, []))
+      × (answer ≡ words.tally items) × Appends before after (flat_map words.line items)
+  Reports left (Err (faults.Capture (Archive f))) before after =
+      (items : List X) × ReadToFault left items f × Appends before after (flat_map words.line items ++ fault_line f)
+  Reports left (Err faults.Write) before after =
+      (items : List X) × (f : Fault) × ReadToFault left items f
+      × AppendsPrefix before after (flat_map words.line items ++ fault_line f)
+  Reports left (Err other) before after = ⊥
 
 -- a report is refused for the archive's fault, or where the output failed
 abbrev pub IsReportFault : IndexFault → Type 0

@@ -6,39 +6,28 @@ use Rattle.warc_core.specs.declared.verdict.Verdict.TheVariants as verdicts
 use Rattle.capture_core.specs.BlockDigest.{verdict_name}
 use Rattle.index_core.specs.declared.fault.IndexFault.{IndexFault}
 use Rattle.index_core.specs.declared.verified.Verified.{Verified}
-use Rattle.archives.specs.Form.{Form, Stored}
+use Rattle.archives.specs.Form.{Form, placed_of}
 use Rattle.archives.specs.Walking.{Judged, verdict_in}
-use Rattle.index_core.specs.Report.{Reports, ReportsRecords}
+use Rattle.index_core.specs.Report.{Reports, Wording}
 
 -- `OFFSET VERDICT`
 unfoldable pub verdict_line : ℕ → Verdict → List ℕ
 verdict_line offset verdict = decimal offset ++ codes " " ++ verdict_name verdict ++ codes "\n"
-
--- what a verification says of a record
-abbrev pub verification_line : Stored → List ℕ
-verification_line r = verdict_line r.place.offset (verdict_in r)
 
 -- one for a block with another digest
 abbrev pub differing_by : Verdict → ℕ
 differing_by verdicts.Differs = 1
 differing_by verdict = 0
 
--- how many of the records have a block with another digest
-abbrev pub differing_in : List Stored → ℕ
-differing_in records = sum_by (λ r. differing_by (verdict_in r)) records
-
--- what a verification answers
-abbrev pub verified_in : List Stored → Verified
-verified_in records = record { records = length records; differing = differing_in records }
-
-abbrev pub judged_line : Judged → List ℕ
-judged_line judged = verdict_line judged.0.place.offset judged.1
-
-abbrev pub verified_of : List Judged → Verified
-verified_of judged = record { records = length judged; differing = sum_by (λ j. differing_by j.1) judged }
+-- what a verification says of an archive
+abbrev pub verification : Wording Verified Judged
+verification = record {
+  placed = λ j. j.0;
+  line = λ j. verdict_line j.0.place.offset j.1;
+  tally = λ judged. record { records = length judged; differing = sum_by (λ j. differing_by j.1) judged };
+  said = λ r. (placed_of r, verdict_in r);
+}
 
 -- what a verification wrote, by its answer
-pub record Verifies (form : Form) (left : Option (List ℕ)) (answer : Result Verified IndexFault)
-    (before after : Option (List ℕ)) : Type 0 where
-  pub report : Reports form verification_line verified_in left answer before after
-  pub records : ReportsRecords form (λ j. j.0) judged_line verified_of answer before after
+abbrev pub Verifies : Form → Option (List ℕ) → Result Verified IndexFault → Option (List ℕ) → Option (List ℕ) → Type 0
+Verifies form = Reports form verification

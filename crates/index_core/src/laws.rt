@@ -4,15 +4,16 @@ ghost use Rattle.index_core.specs.Laws.{AcceptedIsWhole, OneIndexed, OneIndexedT
 ghost use Rattle.index_core.specs.Laws.{OneStands, SomeStands, WholeIsNotRefused, WholeStays};
 ghost use Rattle.index_core.specs.Laws.{CapturesStay, PlainIsDamaged, PlainIsWhole};
 ghost use Rattle.index_core.specs.FetchingLaws.{LengthAgrees, OffsetAgrees, CapturesAreFetched};
-ghost use Rattle.index_core.specs.RecordLaws.{NotBoth, OneFault, OneList, RecordsOrFault};
+ghost use Rattle.index_core.specs.RecordLaws.{IsReadToFault, IsReadWhole};
 ghost use Rattle.index_core.specs.MemberLaws.{MembersArePacked, PackedIsMembers};
 ghost use Rattle.index_core.specs.PackedFetching.{PackedCapturesAreFetched, PackedCapturesStand};
 ghost use Rattle.index_core.specs.PackedLaws.{MembersAreAccepted, MembersAreRecords};
 ghost use Rattle.index_core.specs.PackedLaws.{MembersHaveCaptures};
-ghost use Rattle.index_core.specs.OneText.{ListsOneText, ListsPart, VerifiesOneText, VerifiesPart};
-ghost use Rattle.index_core.specs.OneText.{FetchesOneText, FetchesFront, FetchesAtOneText};
+ghost use Rattle.index_core.specs.Listing.{listing};
+ghost use Rattle.index_core.specs.OneText.{IsReport, FetchesOneText, FetchesFront, FetchesAtOneText};
 ghost use Rattle.index_core.specs.OneText.{FetchesAtFront, AddsOneList, AddsFirst, WritesOneIndex};
 ghost use Rattle.index_core.specs.OneText.{WritesIndexFront};
+ghost use Rattle.index_core.specs.Verifying.{verification};
 
 /// An archive of either form that is accepted whole has one list of captures. So has a plain one
 /// that is accepted only up to a fault's offset.
@@ -71,13 +72,11 @@ pub fn accepted_archive_stays_accepted()
     ensures captures { CapturesStay }
 {}
 
-/// An archive of either form is one list of records up to its end, or up to its fault. It is never
-/// both, and always one.
+/// An archive of either form is one list of records up to its end, or up to its fault, as it is
+/// read. Since reading is a function, it is never both, and always one.
 pub fn archive_is_one_list_of_records()
-    ensures one { OneList }
-    ensures fault { OneFault }
-    ensures either { NotBoth }
-    ensures some { RecordsOrFault }
+    ensures whole { IsReadWhole }
+    ensures fault { IsReadToFault }
 {}
 
 /// A compressed archive is exactly a list of members, each of which has no text or is one record.
@@ -114,20 +113,18 @@ pub fn get_writes_one_text()
     ensures length_front { FetchesAtFront }
 {}
 
-/// The archive decides what `list` returns and writes, unless a device fails or memory can't be
-/// allocated. After such a failure the start of that text was written, and the fault's line. If the
+/// Unless a device fails or memory can't be allocated, `list` returns and writes the listing of the
+/// archive. After such a failure the start of that text was written, and the fault's line. If the
 /// output failed, a prefix of this or of the whole text was written.
 pub fn list_writes_one_text()
-    ensures one { ListsOneText }
-    ensures part { ListsPart }
+    ensures { IsReport listing }
 {}
 
-/// The archive decides what `verify` returns and writes, unless a device fails or memory can't be
-/// allocated. After such a failure the start of that text was written, and the fault's line. If the
-/// output failed, a prefix of this or of the whole text was written.
+/// Unless a device fails or memory can't be allocated, `verify` returns and writes the verification
+/// of the archive. After such a failure the start of that text was written, and the fault's line. If
+/// the output failed, a prefix of this or of the whole text was written.
 pub fn verify_writes_one_text()
-    ensures one { VerifiesOneText }
-    ensures part { VerifiesPart }
+    ensures { IsReport verification }
 {}
 
 /// The archive decides which captures an indexer adds, unless the name is refused, the input fails,

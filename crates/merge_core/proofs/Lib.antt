@@ -2,10 +2,12 @@ pub mod Words
 pub mod Many
 pub mod PairOrder
 pub mod GroupLemmas
+pub mod QueueLemmas
 pub mod InputLemmas
 pub mod StateLemmas
 pub mod MergeLemmas
 pub mod TakenLemmas
 pub mod OpenLemmas
 pub mod SourceLemmas
+pub mod CollectedLemmas
 pub mod CountLemmas

@@ -1,14 +1,12 @@
 -- The collection of several indexes.
 use Rattle.std.specs.List.{AllZip}
-use Rattle.std.specs.Prelude.{◌≡◌, ℕ, ◌-◌, ◌^◌, List, length, flat_map, map, min, Option, Some}
-use Rattle.std.specs.Io.KnownBytes.{Appends}
+use Rattle.std.specs.Prelude.{◌≡◌, ℕ, List, flat_map, map, Option, Some}
 use Rattle.cdxj_core.specs.declared.limit.TheConstants.{LINE_LIMIT}
 use Rattle.cdxj_places.specs.Places.{place_cmp}
 use Rattle.cdxj_places.specs.Rising.{rising}
 use Rattle.cdxj_core.specs.Indexes.{IsIndex}
 use Rattle.cdxj_core.specs.Members.{Member, member_place}
 use Rattle.source_core.specs.declared.source.Source.{Ghosts}
-use Rattle.merge_core.specs.Written.{lines_text}
 
 -- each text is told, and is this one
 abbrev pub Known : List (Option (List ℕ)) → List (List ℕ) → Type 0
@@ -41,9 +39,6 @@ in_places members = rising member_place place_cmp members
 abbrev pub collection : List (List Member) → List Member
 collection indexes = in_places (all_lines indexes)
 
--- the texts are indexes, and their collection was written, which has so many lines
-pub record Merged (texts : List (List ℕ)) (old new : Option (List ℕ)) (number : ℕ) : Type 0 where
-  pub indexes : List (List Member)
-  pub are : AllZip (IsIndex LINE_LIMIT) texts indexes
-  pub text : Appends old new (lines_text (collection indexes))
-  pub count : number ≡ min (length (collection indexes)) (2 ^ 64 - 1)
+-- the texts are indexes
+abbrev pub AreIndexes : List (List ℕ) → Type 0
+AreIndexes texts = (indexes : List (List Member)) × AllZip (IsIndex LINE_LIMIT) texts indexes

@@ -9,6 +9,7 @@ use Rattle.cdxj_places.specs.Rising.{IsIn, Rises}
 use Rattle.cdxj_places.specs.TextLines.{lines}
 use Rattle.cdxj_core.specs.Members.{Member, member_place, line_entry}
 use Rattle.devices.specs.Device.{AppendsPrefix}
+use Rattle.merge_core.specs.Collections.{OverIndexes, collection}
 use Rattle.merge_core.specs.Written.{lines_text}
 
 -- its own line has it as its entry
@@ -30,11 +31,15 @@ pub record AreLinesOf (sources : List (Option (List ℕ))) (members : List Membe
   pub rise : Rises member_place place_cmp members
   pub each : AllByRecursion (IsLineOf sources) members
 
--- such lines were written, and are so many, or after a fault a front of such lines
-abbrev pub WritesLinesOf : {A E : Type 0} → (A → ℕ) → List (Option (List ℕ)) → Result A E → Option (List ℕ)
-    → Option (List ℕ) → Type 0
-WritesLinesOf number sources result old new =
-    (members : List Member) × AreLinesOf sources members
-    × MatchResult result
-    (λ x. Appends old new (lines_text members) × (number x ≡ min (length members) (2 ^ 64 - 1)))
-    (λ _. AppendsPrefix old new (lines_text members))
+-- This holds of lines of the sources that rise by place. Of indexes they are the collection.
+pub record HoldsOfLines (told : List (Option (List ℕ))) (Holds : List Member → Type 0) : Type 0 where
+  pub lines : List Member
+  pub are : AreLinesOf told lines
+  pub whole : OverIndexes told (λ texts indexes. lines ≡ collection indexes)
+  pub holds : Holds lines
+
+-- lines were written, and are so many, or after a fault a front of them
+abbrev pub WritesLines : {A E : Type 0} → (A → ℕ) → Result A E → Option (List ℕ) → Option (List ℕ) → List Member → Type 0
+WritesLines number result old new lines = MatchResult result
+    (λ x. Appends old new (lines_text lines) × (number x ≡ min (length lines) (2 ^ 64 - 1)))
+    (λ _. AppendsPrefix old new (lines_text lines))

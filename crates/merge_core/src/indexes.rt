@@ -1,13 +1,10 @@
 //! The merging of whole indexes.
 ghost use Rattle.std.specs.Prelude.{◌≤◌, ◌+◌, length, map, IfOk};
-ghost use Rattle.devices.specs.Device.{AppendsPrefix};
-ghost use Rattle.merge_core.specs.Collections.{KeepsSources, Merged, OverIndexes, OverTexts};
-ghost use Rattle.merge_core.specs.Collections.{collection};
+ghost use Rattle.merge_core.specs.Collections.{AreIndexes, KeepsSources, OverTexts};
 ghost use Rattle.merge_core.specs.Counts.{OverShares};
 ghost use Rattle.merge_core.specs.Failures.{TellsMergeFault};
-ghost use Rattle.merge_core.specs.SourceLines.{WritesLinesOf};
+ghost use Rattle.merge_core.specs.SourceLines.{HoldsOfLines, WritesLines};
 ghost use Rattle.merge_core.specs.Spending.{AllGaveOnce};
-ghost use Rattle.merge_core.specs.Written.{lines_text};
 
 use crate::fault::MergeFault;
 use crate::line_writer::LineWriter;
@@ -44,12 +41,10 @@ pub fn merge_indexes<S: Source, O: Output>(
     ensures kept { KeepsSources S.Source sources.old sources.new }
     ensures fault { TellsMergeFault S.Source O.Output result sources.old sources.new
         out.old out.new }
-    ensures merged { OverTexts (map S.text sources.old) (λ texts.
-        IfOk result (λ merged. Merged texts (O.written out.old) (O.written out.new) merged.count)) }
-    ensures part { OverIndexes (map S.text sources.old) (λ texts indexes.
-        AppendsPrefix (O.written out.old) (O.written out.new) (lines_text (collection indexes))) }
-    ensures lines { WritesLinesOf (λ merged. merged.count) (map S.text sources.old) result
-        (O.written out.old) (O.written out.new) }
+    ensures merged { HoldsOfLines (map S.text sources.old)
+        (WritesLines (λ merged. merged.count) result (O.written out.old) (O.written out.new)) }
+    ensures indexes { OverTexts (map S.text sources.old) (λ texts.
+        IfOk result (λ _. AreIndexes texts)) }
     ensures bytes { AllGaveOnce S.Source sources.old sources.new }
     ensures most_lines { OverShares (map S.text sources.old) (λ most.
         IfOk result (λ merged. merged.most_lines ≤ length sources.old + most)) }

@@ -3,7 +3,7 @@ ghost use Rattle.std.specs.Prelude.{◌≡◌, ◌+◌, ◌<◌, ◌≤◌, true
 ghost use Rattle.std.specs.Prelude.{IfOk, IfErr, OnOk};
 ghost use Rattle.source_core.specs.Device.{OverText};
 ghost use Rattle.std.specs.List.{list_all};
-ghost use Rattle.cdxj_core.specs.Plain.{is_unescaped_ascii};
+ghost use Rattle.cdxj_core.specs.Plain.{is_printable_ascii};
 ghost use Rattle.cdxj_core.specs.Lines.{body_of};
 ghost use Rattle.cdxj_places.specs.TextLines.{lines};
 ghost use Rattle.merge_core.specs.Failures.{CountsFeed};
@@ -18,6 +18,7 @@ ghost use Rattle.merge_core.specs.BoxedLines.{boxed_option, boxed_line};
 use crate::fault::FeedFault;
 use crate::range::Range;
 use cdxj_core::{Line, LineFault};
+use json::Scratch;
 use source_core::{Cursor, LineBytes, LineReadFault, Source};
 use std::alloc::Global;
 
@@ -29,15 +30,16 @@ fn line_of(
     spare: &mut Vec<Box<Line>>,
     bytes: &[u8],
     kind: LineBytes,
+    scratch: &mut Option<Box<Scratch>>,
 ) -> Result<Box<Line>, LineFault>
-    requires { kind ≡ LineBytes.Unescaped → list_all is_unescaped_ascii (body_of bytes.now) ≡ true }
+    requires { kind ≡ LineBytes.Printable → list_all is_printable_ascii (body_of bytes.now) ≡ true }
     ensures { GivesEntry result bytes.now }
 {
     match spare.pop() {
         Some(mut line) => {
             match kind {
-                LineBytes::Any => line.refill(bytes)?,
-                LineBytes::Unescaped => line.refill_unescaped(bytes)?,
+                LineBytes::Any => line.refill(bytes, scratch)?,
+                LineBytes::Printable => line.refill_printable(bytes, scratch)?,
             }
             Ok(line)
         }
@@ -65,6 +67,7 @@ pub struct LineBuffers {
     alloc: Global,
     bytes: Vec<u8>,
     spare: Vec<Box<Line>>,
+    scratch: Option<Box<Scratch>>,
 }
 
 impl LineBuffers {
@@ -74,6 +77,7 @@ impl LineBuffers {
             alloc,
             bytes: Vec::new(alloc),
             spare: Vec::new(alloc),
+            scratch: None,
         }
     }
 
@@ -124,7 +128,7 @@ impl LineBuffers {
         let begin = cursor.at();
         if let Some((bytes, kind)) = cursor.held_line() {
             let size = bytes.len();
-            let read = line_of(self.alloc, &mut self.spare, bytes, kind);
+            let read = line_of(self.alloc, &mut self.spare, bytes, kind, &mut self.scratch);
             cursor.pass_line(source, size);
             return match read {
                 Ok(line) => Ok(Some(line)),
@@ -133,7 +137,13 @@ impl LineBuffers {
         }
         match cursor.next(source, &mut self.bytes) {
             Ok(false) => Ok(None),
-            Ok(true) => match line_of(self.alloc, &mut self.spare, &self.bytes, LineBytes::Any) {
+            Ok(true) => match line_of(
+                self.alloc,
+                &mut self.spare,
+                &self.bytes,
+                LineBytes::Any,
+                &mut self.scratch,
+            ) {
                 Ok(line) => Ok(Some(line)),
                 Err(fault) => Err(fault_at(begin, fault)),
             },

@@ -110,6 +110,7 @@ fn take_two<K: Sink, O: Output>(
 /// Passes on the lines of a pair, in the order of places, only the first line at each place.
 /// Returns `false` if no more are wanted.
 /// Errors are `Memory`, and `Write` if the sink returns it.
+#[inline(always)]
 #[tactic(auto, using(devices::proofs::DeviceLemmas::grows_not))]
 pub fn pass_group<K: Sink, O: Output>(
     alloc: Global,

@@ -8,9 +8,9 @@ use Rattle.cdxj_core.specs.Entries.{EntryValue}
 use Rattle.index_core.specs.Accepted.{IsAccepted}
 use Rattle.index_core.specs.Form.{BreaksAfter, ConsistsOf, Stored}
 use Rattle.index_core.specs.Limits.{HEAD_LIMIT}
-use Rattle.index_core.specs.Listing.{listing_line}
+use Rattle.index_core.specs.Listing.{listing}
 use Rattle.index_core.specs.Packing.{Packed, Packing, Plain, form_to}
-use Rattle.index_core.specs.Report.{report_lines}
+use Rattle.index_core.specs.Report.{lines_of}
 
 -- a member that zlib wrote, of a response
 abbrev pub response_member : List ℕ
@@ -96,7 +96,7 @@ archive = response_member ++ resource_member
 -- would begin, and the first stays.
 pub record ArchiveIsRead : Type 0 where
   pub whole : ConsistsOf (form_to HEAD_LIMIT Packed) archive (response_record ∷ resource_record ∷ [])
-  pub listed : report_lines listing_line (response_record ∷ resource_record ∷ []) ≡ codes "0 207 response\n207 165 resource\n"
+  pub listed : lines_of listing (response_record ∷ resource_record ∷ []) ≡ codes "0 207 response\n207 165 resource\n"
   pub cut : BreaksAfter (form_to HEAD_LIMIT Packed) (take 371 archive) (response_record ∷ [])
       (record { offset = 207; cause = causes.CutMember })
   pub other : BreaksAfter (form_to HEAD_LIMIT Packed) (response_member ++ codes "x") (response_record ∷ [])

@@ -1,8 +1,8 @@
 -- Hidden bytes, counted by vectors.
-use Rattle.std.proofs.Common.{◌≡◌, ◌∙◌, ℕ, ◌+◌, ◌≤◌, ◌<◌, ◌%◌, ◌^◌, Bool, false, cond, List, [], ◌∷◌, ◌++◌}
+use Rattle.std.proofs.Common.{◌≡◌, ◌∙◌, ℕ, ◌+◌, ◌≤◌, ◌%◌, ◌^◌, Bool, false, cond, List, [], ◌∷◌, ◌++◌}
 use Rattle.std.proofs.Common.{map, length, take, drop, eqb, leb, bit_or, count_ones, flat_map, refl, ap}
 use Rattle.std.proofs.Common.{arith}
-use Rattle.std.specs.List.{count_by, join_by}
+use Rattle.std.specs.List.{count_by}
 use Rattle.std.proofs.lemmas.List.{length-map, take-append-drop}
 use Rattle.std.proofs.lemmas.List.Sums.{sum_by-append, sum_by-cons}
 use Rattle.std.proofs.Math.Seq.{drop-append_seam}
@@ -54,10 +54,6 @@ module _ {X : Type 0} (p : ℕ → Bool) (plain escaped : X → List ℕ) (betwe
   later_same [] h = refl
   later_same (x ∷ xs) h = grind (arith, later_count, later_least, later_same xs (omega (arith, later_count x xs)))
 
-  row_same : (x : X) (xs : List X) → count_by p (join_by plain between (x ∷ xs)) ≤ length xs → join_by plain between
-      (x ∷ xs) ≡ join_by escaped between (x ∷ xs)
-  row_same x xs h = grind (arith, sum_by-append, later_least, later_same)
-
 -- ---- texts that need no escape
 
 -- of no special bytes, neither the first one is one, nor one of the others
@@ -67,7 +63,7 @@ none_parts p x xs h =
     grind arith
 
 -- a text without hidden bytes isn't escaped
-shown : (xs : List ℕ) → count_by is_hidden xs ≤ 0 → xs ≡ escaped xs
+pub shown : (xs : List ℕ) → count_by is_hidden xs ≤ 0 → xs ≡ escaped xs
 shown [] h = refl
 shown (x ∷ xs) h =
     let parts = none_parts is_hidden x xs h in
@@ -75,13 +71,12 @@ shown (x ∷ xs) h =
 
 -- ---- rows
 
--- values with no hidden bytes but the spaces between them aren't escaped
+-- values with no hidden bytes but the spaces before them aren't escaped
 pub text_same : {X : Type 0} (value : X → List ℕ) (fields : List X)
-    → count_by is_hidden (join_by value (32 ∷ []) fields) < length fields → join_by value (32 ∷ []) fields ≡ join_by
-    (λ f. escaped (value f)) (32 ∷ []) fields
-text_same value [] h = refl
-text_same value (f ∷ fs) h = row_same is_hidden value (λ x. escaped (value x)) (32 ∷ []) (λ x. shown (value x)) refl f
-    fs (omega (arith, h))
+    → count_by is_hidden (flat_map (λ f. (32 ∷ []) ++ value f) fields) ≤ length fields
+    → flat_map (λ f. (32 ∷ []) ++ value f) fields ≡ flat_map (λ f. (32 ∷ []) ++ escaped (value f)) fields
+text_same value fields h = later_same is_hidden value (λ x. escaped (value x)) (32 ∷ []) (λ x. shown (value x)) refl
+    fields h
 
 -- a row that was appended as its values stand
-pub ruleset row_rules = (appended, text_same)
+pub ruleset row_rules = (appended, text_same, shown)

@@ -8,7 +8,7 @@ use Rattle.devices.specs.Device.{AppendsPrefix}
 use Rattle.cdxj_core.specs.Members.{Member}
 use Rattle.page_core.specs.Form.{FormValue, Text}
 use Rattle.page_core.specs.PageText.{page_text, page_start, row_text, page_end, begun, PageInPieces, BegunIsFront}
-use Rattle.devices.proofs.WritingLemmas.{prefix_longer, writes_prefix}
+use Rattle.devices.proofs.WritingLemmas.{prefix_longer}
 
 pub page_in_pieces : PageInPieces
 page_in_pieces (Text fields) members key = refl
@@ -38,6 +38,3 @@ pub front-start : (old new : Option (List ℕ)) (form : FormValue) (members : Li
     → AppendsPrefix old new (page_start form) → AppendsPrefix old new (page_text form members key)
 front-start old new form members key p =
     subst (AppendsPrefix old new) (sym (page_in_pieces form members key)) (grind (arith, prefix_longer))
-
--- a row and the line feed after it, written one after the other
-pub ruleset line_rules = (prefix_longer, writes_prefix)

@@ -26,6 +26,7 @@ fn count_lanes(bytes: &[u8], at: usize) -> usize
 
 /// Returns how many of the bytes are hidden. Those behind the first `size` are a filler that isn't,
 /// so that whole lanes hold the others.
+#[inline(always)]
 fn count_before_filler(bytes: &[u8], size: usize) -> usize
     requires long { size + LANES ≤ length bytes.now }
     requires filler { count_by is_hidden (drop size bytes.now) ≡ 0 }
@@ -42,6 +43,7 @@ fn count_before_filler(bytes: &[u8], size: usize) -> usize
 
 /// Returns how many of the bytes from `start` on are hidden. The text is as before.
 /// The only error is refused memory.
+#[inline(always)]
 pub(crate) fn count_hidden(text: &mut Vec<u8>, start: usize) -> Result<usize, AllocError>
     requires { start ≤ length text.old.items }
     ensures text { text.new.items ≡ text.old.items }

@@ -1,14 +1,15 @@
 //! Rows of JSON pages.
-ghost use Rattle.std.specs.Prelude.{◌≡◌, [], ◌∷◌, ◌++◌, codes, map, flat_map, IfOk, option_map};
+ghost use Rattle.std.specs.Prelude.{◌≡◌, ◌++◌, codes, map, flat_map, IfOk, option_map};
 ghost use Rattle.json.specs.Print.{quoted};
 ghost use Rattle.std.specs.List.{join_by};
-ghost use Rattle.cdxj_places.specs.Bytes.{quote};
 ghost use Rattle.cdxj_core.specs.Fields.{field_name};
 ghost use Rattle.page_core.specs.Rows.{row_value, json_row, between_quotes};
 ghost use Rattle.page_core.specs.PageText.{key_rows, later_row};
 
-use cdxj_core::{Field, LineRef, field_name, push_quoted};
+use crate::values::with_later_values;
+use cdxj_core::{Field, Line, LineRef, field_name, push_quoted};
 use std::alloc::{AllocError, Global};
+use std::mem;
 
 fn push_later_quoted(text: &mut Vec<u8>, alloc: Global, value: &str) -> Result<(), AllocError>
     ensures { IfOk result (λ _. text.new.items
@@ -57,21 +58,13 @@ fn push_quoted_values(
     Ok(())
 }
 
-// The end of a value and the next value, each as it stands.
-#[inline(always)]
-fn push_later_plain(text: &mut Vec<u8>, value: &str) -> Result<(), AllocError>
-    ensures { IfOk result (λ _. text.new.items ++ quote ∷ []
-        ≡ (text.old.items ++ quote ∷ []) ++ (codes "," ++ between_quotes value.now)) }
-{
-    text.extend_from_slice(b"\",\"")?;
-    text.extend_from_slice(value.as_bytes())
-}
-
 // The values of the fields as they stand, each between quotes, with a comma between.
+#[tactic(auto, using(crate::proofs::JsonLemmas::between_each, std::proofs::Common::append_assoc))]
 fn push_plain_values(
     text: &mut Vec<u8>,
+    alloc: Global,
     fields: &[Field],
-    line: &LineRef<'_>,
+    line: &Line,
 ) -> Result<(), AllocError>
     ensures { IfOk result (λ _. text.new.items
         ≡ text.old.items
@@ -79,10 +72,9 @@ fn push_plain_values(
 {
     if let Some((first, later)) = fields.split_first() {
         text.extend_from_slice(b"\"")?;
-        text.extend_from_slice(line.value(*first).as_bytes())?;
-        for field in later {
-            push_later_plain(text, line.value(*field))?;
-        }
+        text.extend_from_slice(line.values().value(*first).as_bytes())?;
+        let row = mem::replace(text, Vec::new(alloc));
+        *text = with_later_values(row, b"\",\"", later, line)?;
         text.extend_from_slice(b"\"")?;
     }
     Ok(())
@@ -94,16 +86,16 @@ pub(crate) fn push_json_row(
     text: &mut Vec<u8>,
     alloc: Global,
     fields: &[Field],
-    line: &LineRef<'_>,
+    line: &Line,
 ) -> Result<(), AllocError>
     ensures { IfOk result (λ _. text.new.items
         ≡ text.old.items ++ later_row (map (row_value line.now) fields.now)) }
 {
     text.extend_from_slice(b",\n[")?;
-    if line.needs_no_escapes() {
-        push_plain_values(text, fields, line)?;
+    if line.values().needs_no_escapes() {
+        push_plain_values(text, alloc, fields, line)?;
     } else {
-        push_quoted_values(text, alloc, fields, line)?;
+        push_quoted_values(text, alloc, fields, &line.values())?;
     }
     text.extend_from_slice(b"]")?;
     Ok(())

@@ -10,6 +10,7 @@ mod json_rows;
 mod laws;
 mod page_output;
 mod text_rows;
+mod values;
 
 pub use crate::form::PageForm;
 pub use crate::laws::{begun_page_is_front, page_is_its_pieces, pages_join};

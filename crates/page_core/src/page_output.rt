@@ -1,5 +1,5 @@
 //! The text of a page, written piece by piece.
-ghost use Rattle.std.specs.Prelude.{◌≡◌, option_map};
+ghost use Rattle.std.specs.Prelude.{◌≡◌, ◌++◌, IfOk, option_map};
 ghost use Rattle.cdxj_core.specs.Members.{line_row};
 ghost use Rattle.devices.specs.Writing.{WritesText};
 ghost use Rattle.devices.specs.WriteFaults.{CountsWriteFault};
@@ -11,18 +11,15 @@ use crate::json_rows::push_json_row;
 use crate::text_rows::push_text_row;
 use cdxj_core::Line;
 use devices::{Output, WriteFault, put};
-use std::alloc::Global;
+use std::alloc::{AllocError, Global};
 use std::marker::Model;
 
-/// Writes a line as it stands in its index, with a line feed.
-#[tactic(auto, using(crate::proofs::PageLemmas::line_rules))]
-fn put_line<O: Output>(line: &Line, out: &mut O) -> Result<(), WriteFault>
-    ensures text { WritesText result (O.written out.old) (O.written out.new) (line_row line.now) }
-    ensures failures { CountsWriteFault result (O.failures out.old) (O.failures out.new) }
+/// Appends a line as it stands in its index to the text, with a line feed.
+fn push_line(text: &mut Vec<u8>, line: &Line) -> Result<(), AllocError>
+    ensures { IfOk result (λ _. text.new.items ≡ text.old.items ++ line_row line.now) }
 {
-    put(out, line.line())?;
-    out.write(b"\n")?;
-    Ok(())
+    text.extend_from_slice(line.line())?;
+    text.extend_from_slice(b"\n")
 }
 
 /// Writes a page in one form: its start, a row for each capture, and its end. Each piece is built
@@ -82,10 +79,8 @@ impl<'f> PageOutput<'f> {
         self.text.clear();
         match self.form {
             PageForm::Text(fields) => push_text_row(&mut self.text, self.alloc, fields, line)?,
-            PageForm::Json(fields) => {
-                push_json_row(&mut self.text, self.alloc, fields, &line.values())?
-            }
-            PageForm::Cdxj => return put_line(line, out),
+            PageForm::Json(fields) => push_json_row(&mut self.text, self.alloc, fields, line)?,
+            PageForm::Cdxj => push_line(&mut self.text, line)?,
         }
         put(out, &self.text)?;
         Ok(())

@@ -1,9 +1,9 @@
 -- The pages of a query, by how its captures are cut.
-use Rattle.query_core.proofs.Words.{[], ℕ, ◌++◌, ◌-◌, ◌^◌, ◌∙◌, ◌∷◌, ◌≡◌, AllByRecursion, AllPositive, AllZip, Appends}
-use Rattle.query_core.proofs.Words.{AppendsPrefix, AreCut, Bool, HasReadKey, IsChain, IsIndex, LINE_LIMIT, List, Member}
+use Rattle.query_core.proofs.Words.{[], ℕ, ◌++◌, ◌-◌, ◌^◌, ◌∙◌, ◌∷◌, ◌≡◌, AllByRecursion, AllPositive, Appends}
+use Rattle.query_core.proofs.Words.{AppendsPrefix, AreCut, Bool, HasReadKey, IsChain, List, Member}
 use Rattle.query_core.proofs.Words.{None, Option, Page, PagesSoFar, PlaceValue, QueryValue, Rises, Some, WrotePages}
 use Rattle.query_core.proofs.Words.{WrotePagesInPart, ap, append-nil, append_assoc, arith, captures_over, chain_law}
-use Rattle.query_core.proofs.Words.{collapsed, collection, drop, each_join, each_kept, first_positive, first_size}
+use Rattle.query_core.proofs.Words.{collapsed, drop, each_join, each_kept, first_positive, first_size}
 use Rattle.query_core.proofs.Words.{flat_map-append, form_of, is_wanted, later_positive, later_sizes, length}
 use Rattle.query_core.proofs.Words.{length-take, member_place, min, next_after, page_end, pages_text, place_cmp}
 use Rattle.query_core.proofs.Words.{place_cmp_total, prefix_longer, rises_collapsed, rises_filter, same_part, selected}
@@ -14,7 +14,6 @@ use Rattle.query_core.specs.{OneText.PagesAreOne, QueryPages.IsQueryChain}
 use Rattle.query_core.proofs.WriterLemmas.{captures, captures_are}
 use Rattle.query_core.proofs.PagesLemmas.{Pages, all_cut, all_pages, ends, last_page, next_place, next_short, pages_by}
 use Rattle.query_core.specs.WrittenPages.{KeysButLast, empty_page}
-use Rattle.cdxj_core.proofs.IndexLemmas.{one_index}
 use Rattle.page_core.proofs.PageLemmas.{page_in_pieces}
 
 -- ---- captures that are cut
@@ -114,28 +113,11 @@ module _ (q : QueryValue) (sizes : List ℕ) (positive : AllPositive sizes) (lin
           count = count;
         }
 
--- ---- over known indexes and a known output, a call that succeeds writes one text
-
--- texts are indexes with one list of members each
-pub one_indexes : (texts : List (List ℕ)) (these those : List (List Member)) → AllZip (IsIndex LINE_LIMIT) texts these
-    → AllZip (IsIndex LINE_LIMIT) texts those → these ≡ those
-one_indexes (t ∷ ts) (i ∷ is) (j ∷ js) h k = grind (arith, one_index, one_indexes ts)
-one_indexes texts these those h k = grind arith
+-- ---- over a known output, a call that succeeds writes one text
 
 pub one_written : (old text : List ℕ) (new new' : Option (List ℕ)) → Appends (Some old) new text
     → Appends (Some old) new' text → new ≡ new'
 one_written old text new new' a b = grind arith
 
--- pages of the same lines
-pub wrote_one : (q : QueryValue) (lines : List Member) (sizes old : List ℕ) (new new' : Option (List ℕ))
-    (number number' : ℕ) → WrotePages q lines sizes (Some old) new number
-    → WrotePages q lines sizes (Some old) new' number' → (new ≡ new') × (number ≡ number')
-wrote_one q lines sizes old new new' number number' a b = grind (arith, chain_one, place_cmp_total, one_written)
-
 pub pages_one : PagesAreOne
-pages_one texts these those q sizes old new new' number number' are a b =
-    let same = one_indexes texts these those are.0 are.1 in
-    wrote_one q (collection these) sizes old new new' number number' a (rw same b)
-
--- what an answer or a merge writes
-pub ruleset one_text = (one_indexes, one_written)
+pages_one q lines sizes old new new' number number' a b = grind (arith, chain_one, place_cmp_total, one_written)

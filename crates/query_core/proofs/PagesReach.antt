@@ -11,7 +11,9 @@ use Rattle.query_core.proofs.Words.{length-take, map, member_place, min, next_of
 use Rattle.query_core.proofs.Words.{place_cmp, place_cmp_total, prefix_after, prefix_longer, put, query_page, refl}
 use Rattle.query_core.proofs.Words.{rises_rising, rising, shown_key, sum, sym, take-append_seam, text_so_far, true}
 use Rattle.query_core.proofs.Words.{two_same, wrote_nothing}
-use Rattle.query_core.specs.Answering.{Answered, HoldsOfLines}
+use Rattle.merge_core.specs.SourceLines.{HoldsOfLines}
+use Rattle.merge_core.proofs.CollectedLemmas.{collection_rises, of_lines}
+use Rattle.query_core.specs.Answering.{Answered}
 use Rattle.query_core.specs.{Passes.Took, declared.page_writer.PageEnd.PageEnd, declared.report.Report.Report}
 use Rattle.query_core.specs.WriterView.{IsEndOf, Stands, state_of}
 use Rattle.query_core.proofs.PagesLemmas.{IsOnePage, all_cut, among_rows, decided, few_rows, front_more, has_next}
@@ -35,27 +37,21 @@ pub record Writing (q : QueryValue) (limit : Option ℕ) (sizes : List ℕ) (sta
   pub writer : PageWriter
   pub wrote : Wrote first writer taken start now
 
-pub collection_rises : (indexes : List (List Member)) → Rises member_place place_cmp (collection indexes)
-collection_rises indexes = grind (arith, rises_rising, place_cmp_total)
-
 -- ---- what holds of lines of the sources
 
 module _ {told : List (Option (List ℕ))} {Holds : List Member → Type 0} where
   -- no line was taken
   pub of_none : ((all : List Member) → Rises member_place place_cmp all → Holds all) → HoldsOfLines told Holds
   of_none holds =
-      record { any = ([], grind arith, holds [] tt); over = λ texts indexes known are. holds _ (collection_rises indexes) }
+      of_lines [] (grind arith) (holds [] tt) (λ texts indexes known are. holds _ (collection_rises indexes))
 
   -- those that were taken come first, and may be all
   pub of_taken : {q : QueryValue} {taken : List Member} {whole : Bool} → Took q told taken whole
       → ((all rest : List Member) → Rises member_place place_cmp all → captures q all ≡ captures q taken ++ rest
       → (whole ≡ true → captures q all ≡ captures q taken) → Holds all) → HoldsOfLines told Holds
-  of_taken t holds = record {
-    any = (_, t.lines, holds _ [] t.lines.rise (sym (append-nil _)) (λ e. refl));
-    over = λ texts indexes known are.
-        let first = t.first texts indexes known are in
-        holds _ first.0 (collection_rises indexes) first.1 (λ e. t.whole e texts indexes known are);
-  }
+  of_taken t holds = of_lines _ t.lines (holds _ [] t.lines.rise (sym (append-nil _)) (λ e. refl)) (λ texts indexes known are.
+      let first = t.first texts indexes known are in
+      holds _ first.0 (collection_rises indexes) first.1 (λ e. t.whole e texts indexes known are))
 
 module _ {q : QueryValue} {limit : Option ℕ} {sizes : List ℕ} {start mid : Option (List ℕ)} {taken : List Member}
     (w : Writing q limit sizes start mid taken) where

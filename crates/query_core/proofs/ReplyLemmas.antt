@@ -1,11 +1,11 @@
 -- The replies to the lines of an input, so far and at its end.
 use Rattle.query_core.proofs.Words.{[], ℕ, ⊤, ◌++◌, ◌+◌, ◌-◌, ◌<◌, ◌^◌, ◌∙◌, ◌∷◌, ◌≡◌, ◌≤◌, ◌⊎◌, AllGaveWithin, AllZip}
-use Rattle.query_core.proofs.Words.{AnswerFault, Appends, Appends-join, Appends-none, AppendsPrefix, AreLinesOf, Bool}
-use Rattle.query_core.proofs.Words.{CountsTaken, Err, Ghosts, IsAnswerFaultOf, IsIndex, Known, LINE_LIMIT, List, Member}
-use Rattle.query_core.proofs.Words.{None, Ok, Option, QueryFault, QueryValue, Some, TakesLine, answer_text, ap}
+use Rattle.query_core.proofs.Words.{AnswerFault, Appends, Appends-join, Appends-none, AppendsPrefix, Bool}
+use Rattle.query_core.proofs.Words.{CountsTaken, Err, Ghosts, IsAnswerFaultOf, IsIndex, IsTextReply, Known, LINE_LIMIT, List, Member}
+use Rattle.query_core.proofs.Words.{None, Ok, Option, OverIndexes, QUERY_LIMIT, QueryFault, QueryValue, Some, TakesLine, answer_text, ap}
 use Rattle.query_core.proofs.Words.{append-nil, append_assoc, arith, cases_lt, codes, collection, cut_lines}
 use Rattle.query_core.proofs.Words.{err_from_is_err_and, false, false_from_ne_true, flat_map, flat_map-append}
-use Rattle.query_core.proofs.Words.{grows_not, grows_part, in_reach, inl, is_utf8, is_utf8-from_IsUtf8, le-ltb, length}
+use Rattle.query_core.proofs.Words.{grows_not, grows_part, in_reach, inl, inr, is_utf8, is_utf8-from_IsUtf8, le-ltb, length}
 use Rattle.query_core.proofs.Words.{length-append, length-take, lt-ltb, map, map-append, nat_lt, prefix_after}
 use Rattle.query_core.proofs.Words.{prefix_longer, prepend_known, query_of, query_page, refl, reply_of, subst, sum, sym}
 use Rattle.query_core.proofs.Words.{take, take_all, true, without_carriage_return, wrote_nothing}
@@ -13,13 +13,17 @@ use Rattle.std.specs.Prelude.{IsErrAnd, Result}
 use Rattle.std.proofs.{lemmas.List.Elements.AllZip-push, lemmas.List.Sums.sum_by_push, lemmas.Str.IsUtf8-from_is_utf8}
 use Rattle.devices.specs.LineReading.{IsInputLineFault, IsTooLong, StopsInLine}
 use Rattle.devices.specs.{Writing.WritesText, declared.input_lines.InputLineFault.InputLineFault}
-use Rattle.query_core.specs.{Conversions.fault_of_line, Replies.marked_reply}
+use Rattle.query_core.specs.{Conversions.fault_of_line, Replies.marked_reply, Replies.reply_to}
 use Rattle.query_core.specs.ReplyReach.{AllGaveAtMost, Amount, AreFirstLines, GaveForLines, asked_most, line_most}
 use Rattle.query_core.specs.ReplyReach.{lines_most, query_most}
-use Rattle.query_core.specs.Conversations.{AreLeft, HoldsOfReplies, IsLineReply, IsMarkedReply, IsOneReply, Replied}
-use Rattle.query_core.specs.Conversations.{RepliedInPart, RepliedToAll, RepliedToFirst, RepliedToTaken, WritesSome}
+use Rattle.query_core.specs.Conversations.{AreLeft, IsLineReply, IsMarkedReply, RepliedToAll, RepliedToFirst}
+use Rattle.query_core.specs.Conversations.{RepliedToTaken, WritesSome}
+use Rattle.query_core.specs.{IndexFaults.NamesNoLine, OneText.RepliesAreOne}
+use Rattle.query_core.proofs.PageIndexes.{no_line_at_fault}
+use Rattle.merge_core.specs.SourceLines.{HoldsOfLines}
+use Rattle.merge_core.proofs.CollectedLemmas.{of_lines}
 use Rattle.query_core.proofs.PagesLemmas.{whole_prefix}
-use Rattle.query_core.specs.AnyReplies.{IsPageReply, IsQueryReply, fault_text}
+use Rattle.query_core.specs.AnyReplies.{EndsInFault, IsPageReply, IsQueryReply, fault_text}
 use Rattle.devices.specs.declared.input_lines.InputLineFault.TheVariants as input
 use Rattle.query_core.specs.declared.fault.AnswerFault.TheVariants as fault
 
@@ -35,26 +39,52 @@ pub marked : {A E : Type 0} (r : Result A E) (old mid new : Option (List ℕ)) (
 marked (Ok x) old mid new text mark a w = Appends-join old mid new text mark a w
 marked (Err e) old mid new text mark a w = prefix_after old mid new text mark a w
 
--- what follows whatever is a reply to a text
-pub each_reply : {told : List (Option (List ℕ))} {F G : (List ℕ → List ℕ → Type 0) → Type 0}
-    → ((IsReply : List ℕ → List ℕ → Type 0) → F IsReply → G IsReply) → HoldsOfReplies told F → HoldsOfReplies told G
-each_reply f h = record { any = f _ h.any; over = λ texts indexes known are. f _ (h.over texts indexes known are) }
-
 -- ---- the reply to a query
 
 -- the fault of a line after a front of the page
-pub fault_reply : {A E : Type 0} (told : List (Option (List ℕ))) (q : QueryValue) (lines : List Member) (r : Result A E)
-    (old mid new : Option (List ℕ)) (fault : AnswerFault) (line : List ℕ) → AreLinesOf told lines
-    → AppendsPrefix old mid (answer_text q (query_page q lines)) → IsAnswerFaultOf told fault
-    → fault_text fault ≡ Some line → WritesText r mid new line → WritesSome r old new (IsPageReply told q)
-fault_reply told q lines r old mid new fault line are (rest, wrote) named is w =
-    let m = marked r old mid new wrote.front line wrote.grown w in grind arith
+pub fault_reply : {A E : Type 0} (told : List (Option (List ℕ))) (q : QueryValue) (r : Result A E)
+    (old mid new : Option (List ℕ)) (fault : AnswerFault) (line : List ℕ)
+    → HoldsOfLines told (λ lines. AppendsPrefix old mid (answer_text q (query_page q lines)))
+    → IsAnswerFaultOf told fault → fault_text fault ≡ Some line → WritesText r mid new line
+    → WritesSome r old new (IsPageReply told q)
+fault_reply told q r old mid new fault line page named is w =
+    let wrote = page.holds.1 in
+    let ends : EndsInFault told (answer_text q (query_page q page.lines)) (wrote.front ++ line) = record {
+      front = wrote.front;
+      rest = page.holds.0;
+      whole = wrote.whole;
+      fault = fault;
+      named = named;
+      line = line;
+      line_is = is;
+      ends = refl;
+    } in
+    writes_some r old new (IsPageReply told q) (wrote.front ++ line)
+    (record { lines = page.lines; are = page.are; whole = page.whole; holds = inr ends })
+    (marked r old mid new wrote.front line wrote.grown w)
 
 -- there is one
 pub some_reply : (told : List (Option (List ℕ))) (r : Result QueryValue QueryFault) → (reply : List ℕ)
     × IsQueryReply told r reply
-some_reply told (Ok q) = (answer_text q (query_page q []), record { lines = []; are = grind arith; page = grind arith })
+some_reply told (Ok q) =
+    let some : HoldsOfLines told (λ lines. ⊤) = of_lines [] (grind arith) tt (λ texts indexes known are. tt) in
+    (_, record { lines = some.lines; are = some.are; whole = some.whole; holds = inl refl })
 some_reply told (Err fault) = grind arith
+
+no_fault : (fault : AnswerFault) (line : List ℕ) → NamesNoLine fault → fault_text fault ≡ Some line → ⊥
+no_fault (fault.BadLine i offset) line none is = none
+no_fault (fault.OutOfOrder i offset) line none is = none
+no_fault other line none is = grind arith
+
+-- over indexes each text has one
+query_one : (told : List (Option (List ℕ))) (r : Result QueryValue QueryFault) (reply : List ℕ) → IsQueryReply told r reply
+    → OverIndexes told (λ texts indexes. reply ≡ reply_to (collection indexes) r)
+query_one told (Ok q) reply page texts indexes known are =
+    let whole = page.whole texts indexes known are in elim page.holds [
+      | inl is ↦ rw (← whole) is
+      | inr ends ↦ absurd (no_fault ends.fault ends.line (no_line_at_fault told ends.fault ends.named texts indexes known are) ends.line_is)
+    ]
+query_one told (Err fault) reply is texts indexes known are = is
 
 -- ---- the reply to a line
 
@@ -197,25 +227,17 @@ nothing_replied limit IsReply input old = replied_front (replied_none limit IsRe
 
 -- ---- where each text has one reply
 
-module _ (limit : ℕ) (reply : List ℕ → List ℕ) where
-  abbrev Is : List ℕ → List ℕ → Type 0
-  Is = IsOneReply reply
-
-  pub texts_are : (lines texts : List (List ℕ)) → AllZip (IsMarkedReply limit Is) lines texts → joined texts
+module _ (limit : ℕ) {IsReply : List ℕ → List ℕ → Type 0} (reply : List ℕ → List ℕ)
+    (one : (text given : List ℕ) → IsReply text given → given ≡ reply text) where
+  pub texts_are : (lines texts : List (List ℕ)) → AllZip (IsMarkedReply limit IsReply) lines texts → joined texts
       ≡ flat_map (marked_reply limit reply) lines
   texts_are [] texts each = grind arith
-  texts_are (line ∷ lines) texts each = grind (arith, texts_are lines)
+  texts_are (line ∷ lines) texts each = grind (arith, one, texts_are lines)
 
-  pub one_reply : (input : Option (List ℕ)) (count : ℕ) (old new : Option (List ℕ))
-      → RepliedToAll limit Is input count old new → Replied limit reply input count old new
-  one_reply input count old new h = grind (arith, texts_are)
-
-  pub one_reply_part : (input old new : Option (List ℕ)) → RepliedToFirst limit Is input old new
-      → RepliedInPart limit reply input old new
-  one_reply_part None old new h = tt
-  one_reply_part (Some input) old new (first, later, texts, split, each, written) =
-      subst (AppendsPrefix old new) (sym (flat_map-append (marked_reply limit reply) first later)
-      ∙ ap (flat_map (marked_reply limit reply)) (sym split)) (grind (arith, prefix_longer, texts_are))
+pub replies_one : RepliesAreOne
+replies_one told lines texts each these indexes known are =
+    texts_are QUERY_LIMIT (reply_of QUERY_LIMIT (collection indexes))
+    (λ text given is. query_one told (query_of QUERY_LIMIT text) given is these indexes known are) lines texts each
 
 -- ---- what sources give for the lines of an input, one after another
 
@@ -275,70 +297,83 @@ most_alike limit line shown same all e t i = grind (arith, lt-ltb, nat_lt)
 -- ---- the lines so far
 
 -- The lines that were answered, what was written of their replies, and what the sources gave
-pub record Spent {S : Type 0} (device : Ghosts S) (limit : ℕ) (input now : Option (List ℕ)) (count : ℕ)
-    (texts : List (List ℕ)) (indexes : List (List Member)) (old new : Option (List ℕ)) (olds news : List S) : Type 0
-  where
-    pub so_far : RepliedSoFar limit (IsOneReply (reply_of limit (collection indexes))) input now count old new
-    pub within : AllGaveAtMost device (lines_most limit (collection indexes) so_far.done) texts indexes olds news
+pub record Spent {S : Type 0} (device : Ghosts S) (limit : ℕ) (IsReply : List ℕ → List ℕ → Type 0)
+    (input now : Option (List ℕ)) (count : ℕ) (old new : Option (List ℕ)) (olds news : List S) : Type 0 where
+  pub so_far : RepliedSoFar limit IsReply input now count old new
+  pub within : OverIndexes (map device.text olds) (λ texts indexes.
+      AllGaveAtMost device (lines_most limit (collection indexes) so_far.done) texts indexes olds news)
 
-pub spent_none : {S : Type 0} (device : Ghosts S) (limit : ℕ) (texts : List (List ℕ))
-    (indexes : List (List Member)) (input : Option (List ℕ)) (buffer : List ℕ) (old : Option (List ℕ))
-    (sources : List S) → Known (map device.text sources) texts → AllZip (IsIndex LINE_LIMIT) texts indexes → buffer ≡ []
-    → Spent device limit input (prepend_known buffer input) 0 texts indexes old old sources sources
-spent_none device limit texts indexes input buffer old sources known are e = grind (arith, replied_none, gave_none)
+pub spent_none : {S : Type 0} (device : Ghosts S) (limit : ℕ) (IsReply : List ℕ → List ℕ → Type 0)
+    (input : Option (List ℕ)) (buffer : List ℕ) (old : Option (List ℕ)) (sources : List S) → buffer ≡ []
+    → Spent device limit IsReply input (prepend_known buffer input) 0 old old sources sources
+spent_none device limit IsReply input buffer old sources e = record {
+  so_far = replied_none limit IsReply input buffer old e;
+  within = λ texts indexes known are. gave_none device (lines_most limit (collection indexes) []) texts indexes sources known are;
+}
 
-module _ {S : Type 0} {device : Ghosts S} {limit : ℕ} {input now : Option (List ℕ)} {count : ℕ}
-    {texts : List (List ℕ)} {indexes : List (List Member)} {old new : Option (List ℕ)} {olds mids : List S}
-    (s : Spent device limit input now count texts indexes old new olds mids) where
-  abbrev all : List Member
-  all = collection indexes
-
-  wrote : Appends old new (flat_map (marked_reply limit (reply_of limit all)) s.so_far.done)
-  wrote = rw (← texts_are limit (reply_of limit all) s.so_far.done s.so_far.texts s.so_far.each) s.so_far.written
-
-  pub spent_part : RepliedInPart limit (reply_of limit all) input old new
-  spent_part = one_reply_part limit (reply_of limit all) input old new
-      (replied_front s.so_far)
-
+module _ {S : Type 0} {device : Ghosts S} {limit : ℕ} {IsReply : List ℕ → List ℕ → Type 0}
+    {input now : Option (List ℕ)} {count : ℕ} {old new : Option (List ℕ)} {olds mids : List S}
+    (s : Spent device limit IsReply input now count old new olds mids) where
   -- no line was read
-  pub spent_stop : GaveForLines device limit input texts indexes old new olds mids
-  spent_stop = grind (arith, next, append-nil, taken_first, wrote, grows_not)
+  pub spent_stop : OverIndexes (map device.text olds) (λ texts indexes.
+      GaveForLines device limit IsReply input texts indexes old new olds mids)
+  spent_stop texts indexes known are = record {
+    answered = s.so_far.done;
+    next = [];
+    one = omega arith;
+    first = rw append-nil (taken_first input now s.so_far.done s.so_far.taken);
+    replies = s.so_far.texts;
+    each = s.so_far.each;
+    wrote = record { middle = new; front = s.so_far.written; grows = grows_not new };
+    within = rw append-nil (s.within texts indexes known are);
+  }
 
   -- a line was read, and what the sources gave then
   module _ (after last : Option (List ℕ)) (line : List ℕ) (news : List S)
       (takes : TakesLine (limit + 2) true now after line) (same : map device.extent mids ≡ map device.extent olds)
-      (gives : AllGaveAtMost device (line_most limit all (without_carriage_return line)) texts indexes mids news)
+      (gives : OverIndexes (map device.text olds) (λ texts indexes.
+      AllGaveAtMost device (line_most limit (collection indexes) (without_carriage_return line)) texts indexes mids news))
     where
       abbrev more : (shown : List ℕ) × AreTaken input after (s.so_far.done ++ shown ∷ [])
           × AreAlike limit (without_carriage_return line) shown
       more = next s.so_far after last line takes
 
-      more_within : AllGaveAtMost device (lines_most limit all (s.so_far.done ++ more.0 ∷ [])) texts indexes olds news
-      more_within = gave_join device (lines_most limit all s.so_far.done)
+      more_within : OverIndexes (map device.text olds) (λ texts indexes.
+          AllGaveAtMost device (lines_most limit (collection indexes) (s.so_far.done ++ more.0 ∷ [])) texts indexes olds news)
+      more_within texts indexes known are =
+          let all = collection indexes in
+          gave_join device (lines_most limit all s.so_far.done)
           (line_most limit all (without_carriage_return line)) (lines_most limit all (s.so_far.done ++ more.0 ∷ []))
           (λ e t i. more_sum (λ l. line_most limit all l e t i) s.so_far.done (without_carriage_return line) more.0
           (most_alike limit (without_carriage_return line) more.0 more.2 all e t i)) texts indexes olds mids news same
-          s.within gives
+          (s.within texts indexes known are) (gives texts indexes known are)
 
       -- its reply was written
-      pub spent_more : (text : List ℕ)
-          × IsMarkedReply limit (IsOneReply (reply_of limit all)) (without_carriage_return line) text
-          × Appends new last text → Spent device limit input after (count + 1) texts indexes old last olds news
+      pub spent_more : (text : List ℕ) × IsMarkedReply limit IsReply (without_carriage_return line) text
+          × Appends new last text → Spent device limit IsReply input after (count + 1) old last olds news
       spent_more h = record { so_far = line_more s.so_far after last line takes h; within = more_within }
 
       -- its reply ended in a fault
-      pub spent_within : (text : List ℕ)
-          × IsMarkedReply limit (IsOneReply (reply_of limit all)) (without_carriage_return line) text
-          × AppendsPrefix new last text → GaveForLines device limit input texts indexes old last olds news
-      spent_within (text, is, written) = grind (arith, next, taken_first, wrote, grows_part, more_within)
+      pub spent_within : (text : List ℕ) × AppendsPrefix new last text
+          → OverIndexes (map device.text olds) (λ texts indexes.
+          GaveForLines device limit IsReply input texts indexes old last olds news)
+      spent_within (text, written) texts indexes known are = record {
+        answered = s.so_far.done;
+        next = more.0 ∷ [];
+        one = omega arith;
+        first = taken_first input after (s.so_far.done ++ more.0 ∷ []) more.1;
+        replies = s.so_far.texts;
+        each = s.so_far.each;
+        wrote = record { middle = new; front = s.so_far.written; grows = grows_part _ _ _ written };
+        within = more_within texts indexes known are;
+      }
 
 -- nothing was read
-pub nothing_spent : {S : Type 0} (device : Ghosts S) (limit : ℕ) (texts : List (List ℕ)) (indexes : List (List Member))
-    (input old : Option (List ℕ)) (sources : List S) → Known (map device.text sources) texts
-    → AllZip (IsIndex LINE_LIMIT) texts indexes
-    → GaveForLines device limit input texts indexes old old sources sources
-nothing_spent device limit texts indexes input old sources known are =
-    spent_stop (spent_none device limit texts indexes input [] old sources known are refl)
+pub nothing_spent : {S : Type 0} (device : Ghosts S) (limit : ℕ) (IsReply : List ℕ → List ℕ → Type 0)
+    (input old : Option (List ℕ)) (sources : List S) → OverIndexes (map device.text sources) (λ texts indexes.
+    GaveForLines device limit IsReply input texts indexes old old sources sources)
+nothing_spent device limit IsReply input old sources =
+    spent_stop (spent_none device limit IsReply input [] old sources refl)
 
 -- ---- what the calls cite
 
@@ -346,4 +381,4 @@ pub ruleset query_rules = (fault_reply, gave_page)
 
 pub ruleset line_rules = (line_tests, writes_some, gave_line, gave_none, wrote_nothing)
 
-pub ruleset serve_rules = (one_reply_part, nothing_replied, spent_part, spent_stop, nothing_spent, err_from_is_err_and)
+pub ruleset serve_rules = (nothing_replied, err_from_is_err_and)

@@ -13,16 +13,10 @@ use Rattle.query_text.specs.Matching.{is_past}
 use Rattle.merge_core.specs.Collections.{OverIndexes, all_lines, collection}
 use Rattle.merge_core.specs.Counts.{ShareAtMost}
 use Rattle.merge_core.specs.Runs.{IsPart}
-use Rattle.merge_core.specs.SourceLines.{AreLinesOf}
 use Rattle.query_core.specs.declared.fault.AnswerFault.{AnswerFault}
 use Rattle.query_core.specs.declared.report.Report.{Report}
 use Rattle.query_core.specs.QueryPages.{query_page, answer_text}
 use Rattle.query_core.specs.Reach.{GaveInReach, in_reach}
-
--- this holds of lines of the sources that rise by place, whatever their bytes; over indexes, of their collection
-pub record HoldsOfLines (told : List (Option (List ℕ))) (Holds : List Member → Type 0) : Type 0 where
-  pub any : (lines : List Member) × AreLinesOf told lines × Holds lines
-  pub over : OverIndexes told (λ texts indexes. Holds (collection indexes))
 
 -- the page of these lines was written, and the report is its
 pub record Answered (q : QueryValue) (lines : List Member) (old new : Option (List ℕ)) (report : Report) : Type 0 where

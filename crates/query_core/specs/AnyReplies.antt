@@ -1,11 +1,10 @@
 -- The reply to a query over sources of any bytes.
 use Rattle.std.specs.Prelude.{◌≡◌, ◌⊎◌, ℕ, List, ◌++◌, codes, Option, None, Some, Result, Ok, Err}
-use Rattle.cdxj_core.specs.Members.{Member}
 use Rattle.query_text.specs.declared.fault.QueryFault.{QueryFault}
 use Rattle.query_text.specs.declared.query.TheConstants.{QUERY_LIMIT}
 use Rattle.query_text.specs.FaultNames.{query_fault_name}
 use Rattle.query_text.specs.Queries.{QueryValue, query_of}
-use Rattle.merge_core.specs.SourceLines.{AreLinesOf}
+use Rattle.merge_core.specs.SourceLines.{HoldsOfLines}
 use Rattle.query_core.specs.declared.fault.AnswerFault.{AnswerFault}
 use Rattle.query_core.specs.declared.fault.AnswerFault.TheVariants as fault
 use Rattle.query_core.specs.IndexFaults.{IsAnswerFaultOf}
@@ -32,10 +31,9 @@ module _ (told : List (Option (List ℕ))) where
     pub ends : reply ≡ front ++ line
 
   -- the page of lines of the sources that rise by place, whole or up to the fault of a line
-  pub record IsPageReply (q : QueryValue) (reply : List ℕ) : Type 0 where
-    pub lines : List Member
-    pub are : AreLinesOf told lines
-    pub page : (reply ≡ answer_text q (query_page q lines)) ⊎ EndsInFault (answer_text q (query_page q lines)) reply
+  abbrev pub IsPageReply : QueryValue → List ℕ → Type 0
+  IsPageReply q reply = HoldsOfLines told (λ lines.
+      (reply ≡ answer_text q (query_page q lines)) ⊎ EndsInFault (answer_text q (query_page q lines)) reply)
 
   -- the same, or the name of the query's refusal
   abbrev pub IsQueryReply : Result QueryValue QueryFault → List ℕ → Type 0

@@ -1,5 +1,5 @@
 -- The replies to an input, all of them or a front of them.
-use Rattle.std.specs.Prelude.{◌≡◌, ℕ, ◌-◌, ◌^◌, ◌<◌, ⊤, List, ◌++◌, length, flat_map, map, nat_lt, codes, MatchBool, Option}
+use Rattle.std.specs.Prelude.{◌≡◌, ℕ, ◌-◌, ◌^◌, ◌<◌, List, ◌++◌, length, flat_map, map, nat_lt, codes, MatchBool, Option}
 use Rattle.std.specs.Prelude.{None, Some, Result, MatchResult}
 use Rattle.std.specs.List.{AllZip}
 use Rattle.std.specs.Str.{is_utf8}
@@ -7,27 +7,7 @@ use Rattle.std.specs.Io.KnownBytes.{Appends}
 use Rattle.devices.specs.Device.{AppendsPrefix}
 use Rattle.devices.specs.LineCuts.{HasNoLineFeed, input_lines, cut_lines, without_carriage_return}
 use Rattle.query_core.specs.declared.fault.AnswerFault.{AnswerFault}
-use Rattle.query_core.specs.AnyReplies.{IsTextReply}
-use Rattle.query_core.specs.Replies.{refusal_text, replies, reply_of}
-use Rattle.query_text.specs.declared.query.TheConstants.{QUERY_LIMIT}
-use Rattle.merge_core.specs.Collections.{OverIndexes, collection}
-
--- ---- where each text has one reply
-
--- the replies to the whole input were written, and so many lines were answered
-abbrev pub Replied : ℕ → (List ℕ → List ℕ) → Option (List ℕ) → ℕ → Option (List ℕ) → Option (List ℕ) → Type 0
-Replied limit reply None count old new = ⊤
-Replied limit reply (Some input) count old new =
-    (length input < 2 ^ 63 - 1) × (count ≡ length (input_lines input)) × Appends old new (replies limit reply input)
-
--- a front of the replies to the whole input was written
-abbrev pub RepliedInPart : ℕ → (List ℕ → List ℕ) → Option (List ℕ) → Option (List ℕ) → Option (List ℕ) → Type 0
-RepliedInPart limit reply None old new = ⊤
-RepliedInPart limit reply (Some input) old new = AppendsPrefix old new (replies limit reply input)
-
--- the reply to the text is this one
-abbrev pub IsOneReply : (List ℕ → List ℕ) → List ℕ → List ℕ → Type 0
-IsOneReply reply text given = given ≡ reply text
+use Rattle.query_core.specs.Replies.{refusal_text}
 
 -- these lines are left behind those that were taken: those of these bytes, after a part of one line
 abbrev pub AreLeft : Option (List ℕ) → List (List ℕ) → Type 0
@@ -85,10 +65,3 @@ abbrev pub WritesSome : {A E : Type 0} → Result A E → Option (List ℕ) → 
 WritesSome result old new Is =
     MatchResult result (λ _. (text : List ℕ) × Is text × Appends old new text) (λ _. (text : List ℕ) × Is text
     × AppendsPrefix old new text)
-
--- ---- what is a reply to a text
-
--- this holds by the pages of lines of the sources, whatever their bytes; over indexes, by that of their collection
-pub record HoldsOfReplies (told : List (Option (List ℕ))) (Holds : (List ℕ → List ℕ → Type 0) → Type 0) : Type 0 where
-  pub any : Holds (IsTextReply told)
-  pub over : OverIndexes told (λ texts indexes. Holds (IsOneReply (reply_of QUERY_LIMIT (collection indexes))))

@@ -1,19 +1,13 @@
 -- Laws of merges.
-use Rattle.std.specs.Prelude.{◌≡◌, ◌↔◌, ℕ, List, ◌∷◌, ◌++◌, Option}
+use Rattle.std.specs.Prelude.{◌≡◌, ◌↔◌, ℕ, List, ◌∷◌, ◌++◌}
 use Rattle.std.specs.List.{AllZip}
-use Rattle.std.specs.Io.KnownBytes.{Appends}
 use Rattle.std.specs.declared.cmp.Ordering.TheVariants.{Equal}
-use Rattle.cdxj_core.specs.declared.limit.TheConstants.{LINE_LIMIT}
 use Rattle.cdxj_places.specs.Places.{place_cmp}
 use Rattle.cdxj_places.specs.Rising.{IsIn}
 use Rattle.cdxj_core.specs.Indexes.{IsIndex}
 use Rattle.cdxj_core.specs.Members.{Member, member_place}
 use Rattle.merge_core.specs.Collections.{all_lines, collection}
 use Rattle.merge_core.specs.Written.{lines_text}
-
--- an index of these lines was written
-abbrev pub WroteIndex : List Member → Option (List ℕ) → Option (List ℕ) → Type 0
-WroteIndex lines old new = IsIndex LINE_LIMIT (lines_text lines) lines × Appends old new (lines_text lines)
 
 -- the lines of a merge of indexes are an index with these lines
 abbrev pub MergedIsIndex : Type 0

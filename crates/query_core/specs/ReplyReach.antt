@@ -1,7 +1,7 @@
 -- How much sources give for the replies to the lines of an input.
 use Rattle.std.specs.Prelude.{◌≡◌, ℕ, ◌+◌, ◌*◌, ◌≤◌, ⊤, List, [], ◌∷◌, ◌++◌, flat_map, length, map, nat_lt, Option, None}
 use Rattle.std.specs.Prelude.{Some, Result, Ok, Err, if◌then◌else◌}
-use Rattle.std.specs.List.{filter, sum}
+use Rattle.std.specs.List.{AllZip, filter, sum}
 use Rattle.std.specs.Str.{is_utf8}
 use Rattle.cdxj_places.specs.TextLines.{lines}
 use Rattle.cdxj_core.specs.Members.{Member}
@@ -14,7 +14,7 @@ use Rattle.merge_core.specs.Collections.{collection}
 use Rattle.merge_core.specs.Spending.{search_most}
 use Rattle.merge_core.specs.Written.{lines_text}
 use Rattle.query_core.specs.Reach.{WroteFirst, in_reach}
-use Rattle.query_core.specs.Replies.{marked_reply, reply_of}
+use Rattle.query_core.specs.Conversations.{IsMarkedReply}
 
 -- a number of bytes of an index, by its size, its text and its lines
 abbrev pub Amount : Type 0
@@ -56,13 +56,14 @@ AreFirstLines (Some input) asked = (later : List (List ℕ)) × (input_lines inp
 
 -- The replies to the first lines of an input stand written. Each source gave no more bytes than these lines and one more
 -- take.
-pub record GaveForLines {S : Type 0} (device : Ghosts S) (limit : ℕ) (input : Option (List ℕ))
-    (texts : List (List ℕ)) (indexes : List (List Member)) (old new : Option (List ℕ)) (olds news : List S) : Type 0
-  where
-    pub answered : List (List ℕ)
-    pub next : List (List ℕ)
-    pub one : length next ≤ 1
-    pub first : AreFirstLines input (answered ++ next)
-    pub wrote : WroteFirst old new (flat_map (marked_reply limit (reply_of limit (collection indexes))) answered)
-    pub within : AllGaveAtMost device (lines_most limit (collection indexes) (answered ++ next)) texts indexes olds
-        news
+pub record GaveForLines {S : Type 0} (device : Ghosts S) (limit : ℕ) (IsReply : List ℕ → List ℕ → Type 0)
+    (input : Option (List ℕ)) (texts : List (List ℕ)) (indexes : List (List Member)) (old new : Option (List ℕ))
+    (olds news : List S) : Type 0 where
+  pub answered : List (List ℕ)
+  pub next : List (List ℕ)
+  pub one : length next ≤ 1
+  pub first : AreFirstLines input (answered ++ next)
+  pub replies : List (List ℕ)
+  pub each : AllZip (IsMarkedReply limit IsReply) answered replies
+  pub wrote : WroteFirst old new (flat_map (λ text. text) replies)
+  pub within : AllGaveAtMost device (lines_most limit (collection indexes) (answered ++ next)) texts indexes olds news

@@ -1,9 +1,9 @@
 //! The answer to a query over indexes.
 ghost use Rattle.std.specs.Prelude.{◌≡◌, length, map, IfOk, IfErr};
 ghost use Rattle.merge_core.specs.Collections.{KeepsSources, OverTexts};
+ghost use Rattle.merge_core.specs.SourceLines.{HoldsOfLines};
 ghost use Rattle.query_core.specs.AnswerCounts.{CountsAnswer};
-ghost use Rattle.query_core.specs.Answering.{AnsweredParts, HoldsOfLines, ReadsInReach};
-ghost use Rattle.query_core.specs.Answering.{WritesAnswer};
+ghost use Rattle.query_core.specs.Answering.{AnsweredParts, ReadsInReach, WritesAnswer};
 ghost use Rattle.query_core.specs.IndexFaults.{IsAnswerFaultOf};
 ghost use Rattle.query_core.specs.Refusals.{Refuses, too_many};
 

@@ -5,7 +5,7 @@ ghost use Rattle.query_core.specs.declared.merging.TheConstants.{SOURCES_LIMIT};
 ghost use Rattle.query_core.specs.Limits.{LINE_LIMIT, QUERY_LIMIT};
 ghost use Rattle.query_core.specs.MergeLaws.{MergedIsIndex, MergesCommute, MergesGroup};
 ghost use Rattle.query_core.specs.NothingAsked.{AppendedSelectsNothing, EmptyIsRefused};
-ghost use Rattle.query_core.specs.OneText.{AnswerIsOne, MergeIsOne, PagesAreOne};
+ghost use Rattle.query_core.specs.OneText.{AnswerIsOne, MergeIsOne, PagesAreOne, RepliesAreOne};
 ghost use Rattle.query_core.specs.PageLines.{EmptyLineIsBeforeKey, JsonLinesBeginWithBrackets};
 ghost use Rattle.query_core.specs.PageLines.{NoPageHasFaults, OneFieldHasMarks, OneFieldHasNoSpace};
 ghost use Rattle.query_core.specs.PageLines.{TwoFieldsBeginAsRefusals};
@@ -92,24 +92,30 @@ pub fn appended_condition_selects_nothing()
     ensures empty { EmptyIsRefused }
 {}
 
-/// Over indexes, and an output whose bytes are known, there is one text that an answer that succeeds writes, and one report
-/// of the captures.
-#[tactic(auto, using(crate::proofs::PageChains::one_text))]
+/// Of the same lines, and over an output whose bytes are known, there is one text that an answer that succeeds writes, and
+/// one report of the captures.
+#[tactic(auto, using(crate::proofs::PageChains::one_written))]
 pub fn answer_writes_one_text()
     ensures { AnswerIsOne }
 {}
 
-/// Over indexes, and an output whose bytes are known, there is one text that pages of the same sizes write, and one number
-/// of pages.
+/// Of the same lines, and over an output whose bytes are known, there is one text that pages of the same sizes write, and
+/// one number of pages.
 pub fn pages_write_one_text()
     ensures { PagesAreOne }
 {}
 
-/// Over sources and an output whose bytes are known, there is one text that a merge that succeeds writes, and one number
-/// of lines.
-#[tactic(auto, using(crate::proofs::PageChains::one_text))]
+/// Of the same lines, and over an output whose bytes are known, there is one text that a merge that succeeds writes, and one
+/// number of lines.
+#[tactic(auto, using(crate::proofs::PageChains::one_written))]
 pub fn merge_writes_one_text()
     ensures { MergeIsOne }
+{}
+
+/// Over indexes, the replies to lines are those of their collection: each has one reply.
+#[tactic(auto, using(crate::proofs::ReplyLemmas::replies_one))]
+pub fn replies_over_indexes_are_one()
+    ensures { RepliesAreOne }
 {}
 
 /// The name of a field, as pages write it, names the field in a query.

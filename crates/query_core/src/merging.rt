@@ -1,19 +1,13 @@
 //! The merging of indexes.
-ghost use Rattle.std.specs.Prelude.{◌≡◌, List, length, map, IfOk, IfErr};
-ghost use Rattle.cdxj_core.specs.Members.{Member};
-ghost use Rattle.devices.specs.Device.{AppendsPrefix};
-ghost use Rattle.merge_core.specs.Collections.{KeepsSources, Merged, OverIndexes, OverTexts};
-ghost use Rattle.merge_core.specs.Collections.{collection};
-ghost use Rattle.merge_core.specs.SourceLines.{WritesLinesOf};
+ghost use Rattle.std.specs.Prelude.{◌≡◌, length, map, IfOk, IfErr};
+ghost use Rattle.merge_core.specs.Collections.{AreIndexes, KeepsSources, OverTexts};
+ghost use Rattle.merge_core.specs.SourceLines.{HoldsOfLines, WritesLines};
 ghost use Rattle.merge_core.specs.Spending.{AllGaveOnce};
-ghost use Rattle.merge_core.specs.Written.{lines_text};
 ghost use Rattle.query_core.specs.AnswerCounts.{CountsAnswer};
 ghost use Rattle.query_core.specs.IndexFaults.{IsAnswerFaultOf};
-ghost use Rattle.query_core.specs.MergeLaws.{WroteIndex};
 ghost use Rattle.query_core.specs.Refusals.{Refuses, too_many};
 
 use crate::fault::AnswerFault;
-use crate::laws::merged_lines_are_an_index;
 use devices::Output;
 use merge_core::merge_indexes;
 use source_core::Source;
@@ -43,23 +37,16 @@ pub fn merge<S: Source, O: Output>(
     ensures failures { CountsAnswer result (map S.failures sources.old) (map S.failures sources.new)
         (O.failures out.old) (O.failures out.new) }
     ensures fault { IfErr result (IsAnswerFaultOf (map S.text sources.old)) }
-    ensures merged { OverTexts (map S.text sources.old) (λ texts.
-        IfOk result (Merged texts (O.written out.old) (O.written out.new))) }
-    // What was written of indexes is an index.
-    ensures index { OverTexts (map S.text sources.old) (λ texts.
-        IfOk result (λ _. (lines : List Member) × WroteIndex lines (O.written out.old)
-        (O.written out.new))) }
-    ensures part { OverIndexes (map S.text sources.old) (λ texts indexes.
-        AppendsPrefix (O.written out.old) (O.written out.new) (lines_text (collection indexes))) }
+    ensures merged { HoldsOfLines (map S.text sources.old)
+        (WritesLines (λ number. number) result (O.written out.old) (O.written out.new)) }
+    ensures indexes { OverTexts (map S.text sources.old) (λ texts.
+        IfOk result (λ _. AreIndexes texts)) }
     // Each byte of a source is read at most once.
     ensures bytes { AllGaveOnce S.Source sources.old sources.new }
-    ensures lines { WritesLinesOf (λ number. number) (map S.text sources.old) result
-        (O.written out.old) (O.written out.new) }
 {
     if sources.len() > SOURCES_LIMIT {
         return Err(AnswerFault::TooManySources);
     }
-    merged_lines_are_an_index();
     let merged = merge_indexes(alloc, sources, out)?;
     Ok(merged.count)
 }

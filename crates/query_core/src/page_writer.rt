@@ -215,6 +215,7 @@ impl<'q> PageWriter<'q> {
         Ok(())
     }
 
+    #[inline(never)]
     #[tactic(auto, using(crate::proofs::PagesLemmas::growing))]
     fn take_line<O: Output>(
         &mut self,

@@ -1,8 +1,8 @@
 //! The pages of a query over indexes.
 ghost use Rattle.std.specs.Prelude.{◌≡◌, length, map, IfOk, IfErr};
 ghost use Rattle.merge_core.specs.Collections.{KeepsSources, OverIndexes, OverTexts};
+ghost use Rattle.merge_core.specs.SourceLines.{HoldsOfLines};
 ghost use Rattle.query_core.specs.AnswerCounts.{CountsAnswer};
-ghost use Rattle.query_core.specs.Answering.{HoldsOfLines};
 ghost use Rattle.query_core.specs.IndexFaults.{IsAnswerFaultOf};
 ghost use Rattle.query_core.specs.Paging.{WritesPages, WrotePagesOfParts};
 ghost use Rattle.query_core.specs.PagesReach.{GaveInPages};

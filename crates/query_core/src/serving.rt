@@ -1,15 +1,11 @@
 //! A conversation: a reply to each line of an input.
-ghost use Rattle.std.specs.Prelude.{◌≡◌, length, map, Err, IfOk};
-ghost use Rattle.devices.specs.Writing.{WritesText};
+ghost use Rattle.std.specs.Prelude.{◌≡◌, length, map, Err};
 ghost use Rattle.query_text.specs.declared.query.TheConstants.{QUERY_LIMIT};
-ghost use Rattle.merge_core.specs.Collections.{KeepsSources, OverIndexes, collection};
-ghost use Rattle.query_core.specs.QueryPages.{query_page, answer_text};
+ghost use Rattle.merge_core.specs.Collections.{OverIndexes, KeepsSources, collection};
 ghost use Rattle.query_core.specs.Refusals.{Refuses, too_many};
-ghost use Rattle.query_core.specs.Replies.{reply_of};
 ghost use Rattle.query_core.specs.ReplyReach.{AllGaveAtMost, GaveForLines, line_most, query_most};
 ghost use Rattle.query_core.specs.AnyReplies.{IsPageReply, IsTextReply};
-ghost use Rattle.query_core.specs.Conversations.{Converses, HoldsOfReplies, IsLineReply};
-ghost use Rattle.query_core.specs.Conversations.{IsMarkedReply, Replied, RepliedInPart};
+ghost use Rattle.query_core.specs.Conversations.{Converses, IsLineReply, IsMarkedReply};
 ghost use Rattle.query_core.specs.Conversations.{RepliedToTaken, WritesSome};
 ghost use Rattle.query_core.specs.ReplyFaults.{CountsServing, RepliesFrom};
 
@@ -36,10 +32,7 @@ fn reply_to_query<S: Source, O: Output>(
 ) -> Result<(), AnswerFault>
     ensures sources { RepliesFrom S.Source result sources.old sources.new (O.failures out.old)
         (O.failures out.new) }
-    ensures text { OverIndexes (map S.text sources.old) (λ texts indexes.
-        WritesText result (O.written out.old) (O.written out.new)
-        (answer_text query.now (query_page query.now (collection indexes)))) }
-    ensures lines { WritesSome result (O.written out.old) (O.written out.new)
+    ensures reply { WritesSome result (O.written out.old) (O.written out.new)
         (IsPageReply (map S.text sources.old) query.now) }
     ensures bytes { OverIndexes (map S.text sources.old) (λ texts indexes.
         AllGaveAtMost S.Source (query_most query.now (collection indexes)) texts indexes sources.old
@@ -67,9 +60,8 @@ fn reply_to_line<S: Source, O: Output>(
 ) -> Result<(), AnswerFault>
     ensures sources { RepliesFrom S.Source result sources.old sources.new (O.failures out.old)
         (O.failures out.new) }
-    ensures reply { HoldsOfReplies (map S.text sources.old) (λ IsReply.
-        WritesSome result (O.written out.old) (O.written out.new)
-        (IsLineReply QUERY_LIMIT IsReply line.now)) }
+    ensures reply { WritesSome result (O.written out.old) (O.written out.new)
+        (IsLineReply QUERY_LIMIT (IsTextReply (map S.text sources.old)) line.now) }
     ensures bytes { OverIndexes (map S.text sources.old) (λ texts indexes.
         AllGaveAtMost S.Source (line_most QUERY_LIMIT (collection indexes) line.now) texts indexes
         sources.old sources.new) }
@@ -98,9 +90,8 @@ fn reply_and_mark<S: Source, O: Output>(
 ) -> Result<(), AnswerFault>
     ensures sources { RepliesFrom S.Source result sources.old sources.new (O.failures out.old)
         (O.failures out.new) }
-    ensures reply { HoldsOfReplies (map S.text sources.old) (λ IsReply.
-        WritesSome result (O.written out.old) (O.written out.new)
-        (IsMarkedReply QUERY_LIMIT IsReply line.now)) }
+    ensures reply { WritesSome result (O.written out.old) (O.written out.new)
+        (IsMarkedReply QUERY_LIMIT (IsTextReply (map S.text sources.old)) line.now) }
     ensures bytes { OverIndexes (map S.text sources.old) (λ texts indexes.
         AllGaveAtMost S.Source (line_most QUERY_LIMIT (collection indexes) line.now) texts indexes
         sources.old sources.new) }
@@ -135,22 +126,17 @@ pub fn serve<S: Source, I: Input, O: Output>(
     ensures failures { CountsServing result (map S.failures sources.old)
         (map S.failures sources.new) (O.failures out.old) (O.failures out.new)
         (I.failures input.old) (I.failures input.new) (I.remaining input.old) }
-    ensures replies { OverIndexes (map S.text sources.old) (λ texts indexes.
-        IfOk result (λ count. Replied QUERY_LIMIT (reply_of QUERY_LIMIT (collection indexes))
-        (I.remaining input.old) count (O.written out.old) (O.written out.new))) }
-    ensures part { OverIndexes (map S.text sources.old) (λ texts indexes.
-        RepliedInPart QUERY_LIMIT (reply_of QUERY_LIMIT (collection indexes))
-        (I.remaining input.old) (O.written out.old) (O.written out.new)) }
-    ensures taken { result ≡ Err AnswerFault.Input →
-        HoldsOfReplies (map S.text sources.old) (λ IsReply. RepliedToTaken QUERY_LIMIT IsReply
-        (I.remaining input.old) (I.remaining input.new) (O.written out.old) (O.written out.new)) }
-    // Whatever the sources' bytes, each page is that of lines of theirs that rise by place.
-    ensures lines { Converses QUERY_LIMIT (IsTextReply (map S.text sources.old)) result
+    // Each page is that of lines of the sources that rise by place, whatever their bytes.
+    ensures conversation { Converses QUERY_LIMIT (IsTextReply (map S.text sources.old)) result
         (I.remaining input.old) (O.written out.old) (O.written out.new) }
+    ensures taken { result ≡ Err AnswerFault.Input →
+        RepliedToTaken QUERY_LIMIT (IsTextReply (map S.text sources.old))
+        (I.remaining input.old) (I.remaining input.new) (O.written out.old) (O.written out.new) }
     // Each source gives no more than the queries may take of the lines that were answered, and of one more.
     ensures bytes { OverIndexes (map S.text sources.old) (λ texts indexes.
-        GaveForLines S.Source QUERY_LIMIT (I.remaining input.old) texts indexes (O.written out.old)
-        (O.written out.new) sources.old sources.new) }
+        GaveForLines S.Source QUERY_LIMIT (IsTextReply (map S.text sources.old))
+        (I.remaining input.old) texts indexes (O.written out.old) (O.written out.new) sources.old
+        sources.new) }
 {
     if sources.len() > SOURCES_LIMIT {
         return Err(AnswerFault::TooManySources);

@@ -1,6 +1,6 @@
 //! Which query texts are refused, and why.
 use fixtures::padded;
-use query_text::{Query, QueryFault};
+use query_text::{Query, QueryFault, is_parameter};
 use std::alloc::Global;
 use std::test::Fail;
 
@@ -336,4 +336,13 @@ fn refusals_have_names(rt: HostRuntime) {
     for (fault, name) in NAMES {
         assert!(rt; fault.name() == *name);
     }
+}
+
+#[test]
+fn names_of_parameters_are_known_with_their_case(rt: HostRuntime) {
+    assert!(rt; is_parameter("collapse"));
+    assert!(rt; is_parameter("hasnot"));
+    assert!(rt; !is_parameter("Collapse"));
+    assert!(rt; !is_parameter("page"));
+    assert!(rt; !is_parameter(""));
 }

@@ -25,6 +25,7 @@ pub use crate::collapse::Collapse;
 pub use crate::fault::QueryFault;
 pub use crate::laws::matching_keys_are_in_one_range;
 pub use crate::output::OutputFormat;
+pub use crate::parameter::is_parameter;
 pub use crate::query::{QUERY_LIMIT, Query};
 pub use crate::resuming::resume_key_is_put_into_query;
 pub use crate::target::{MatchKind, Target};

@@ -1,5 +1,5 @@
 //! The names of parameters.
-ghost use Rattle.std.specs.Prelude.{◌≡◌};
+ghost use Rattle.std.specs.Prelude.{◌≡◌, is_some};
 ghost use Rattle.query_text.specs.ParameterNames.{parameter_named};
 
 use crate::filter::Test;
@@ -45,4 +45,11 @@ pub(crate) fn parameter_named(name: &str) -> Option<Parameter>
         "collapse" => Some(Parameter::Collapse),
         _ => None,
     }
+}
+
+/// Returns `true` for the name of a parameter. Case is significant.
+pub fn is_parameter(name: &str) -> bool
+    ensures { result ≡ is_some (parameter_named name.now) }
+{
+    parameter_named(name).is_some()
 }

@@ -144,6 +144,6 @@ impl Target {
     pub fn is_past(&self, key: &str) -> bool
         ensures { result ≡ is_past self.now key.now }
     {
-        key > self.text.as_str() && !self.covers(key)
+        !self.covers(key) && key > self.text.as_str()
     }
 }

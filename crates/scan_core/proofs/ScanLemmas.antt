@@ -7,15 +7,16 @@ use Rattle.std.proofs.Common.{Equal}
 use Rattle.cdxj_places.proofs.{PlaceOrder.same_place, RisingAlike.rising_referred}
 use Rattle.cdxj_core.specs.{Entries.EntryValue, Entries.entry_place, Members.entry_member}
 use Rattle.index_core.specs.Indexing.{AreNamed, HaveOwnPlaces, entries_text, in_places, index_text, is_among}
-use Rattle.query_core.proofs.{ComposeLemmas.rising_parts, PageChains.wrote_one}
+use Rattle.query_core.proofs.{ComposeLemmas.rising_parts, PageChains.pages_one}
 use Rattle.scan_core.specs.Archives.{AreCapturesOfEach, AreNewNames, HaveIndexes, HaveLines, index_members}
 use Rattle.scan_core.specs.{Captures.all_captures, Captures.captured_lines, Laws.ScanIsOne}
 use Rattle.warc_core.specs.Kind.{Kind}
 use Rattle.index_core.proofs.SoundLemmas.{among_last, among_more}
-use Rattle.scan_core.specs.Scanning.{IsAsked, Scanned, ScannedInPart, WritesKnownPages}
+use Rattle.scan_core.specs.Scanning.{IsAsked, Scanned, WritesKnownPages}
 use Rattle.archives.specs.State.{ToldArchive}
 use Rattle.index_core.specs.Laws.{OneIndexed}
 use Rattle.query_core.specs.declared.fault.AnswerFault.{AnswerFault}
+use Rattle.scan_core.specs.declared.fault.ScanFault.TheVariants.{Answer}
 
 -- ---- the collection of several indexes is that of all captures
 
@@ -81,13 +82,13 @@ module _ {types : Kind → Bool} {names texts : List (List ℕ)} {inputs : List 
   pub scanned_whole : (number : ℕ)
       → ((members : List (List Member)) → AllZip (IsIndex LINE_LIMIT) texts members
       → WritesKnownPages query (collection members) sizes (Ok number) old new)
-      → Scanned types names inputs sizes text old new number
+      → Scanned types names inputs sizes text (Ok number) old new
   scanned_whole number w = grind (arith, once_from, collected)
 
   pub scanned_part : (fault : AnswerFault) → ((members : List (List Member)) → AllZip (IsIndex LINE_LIMIT) texts members
       → WritesKnownPages query (collection members) sizes (Err fault) old new)
-      → ScannedInPart types names inputs sizes text old new
-  scanned_part fault w = grind (arith, collected)
+      → Scanned types names inputs sizes text (Err (Answer fault)) old new
+  scanned_part fault w = grind (arith, once_from, collected)
 
 -- ---- a scan of known archives writes one text
 
@@ -104,5 +105,5 @@ scan_one one types names archives inputs sizes text old new new' number number' 
     let same = one_captures one types names inputs archives a.captures b.captures known a.indexed.accepted
     b.indexed.accepted in
     let query : a.query ≡ b.query = grind arith in
-    wrote_one a.query (captured_lines a.captures) sizes old new new' number number' a.wrote
+    pages_one a.query (captured_lines a.captures) sizes old new new' number number' a.wrote
     (rw (query, same) b.wrote)

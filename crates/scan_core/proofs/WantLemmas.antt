@@ -1,6 +1,6 @@
 -- A scan of which nothing is at fault is refused for want of memory.
-use Rattle.query_core.proofs.Words.{[], ℕ, ◌++◌, ◌<◌, ◌∷◌, ◌≡◌, AllByRecursion, AllZip, Bool, Known, List, None, Option}
-use Rattle.query_core.proofs.Words.{Some, append-nil, append_assoc, arith, get_or, length, suc, take, zero}
+use Rattle.query_core.proofs.Words.{[], ℕ, ◌++◌, ◌<◌, ◌∷◌, ◌≡◌, AllByRecursion, AllZip, Bool, List}
+use Rattle.query_core.proofs.Words.{append-nil, append_assoc, arith, get_or, length, suc, take, zero}
 use Rattle.std.proofs.Common.{set}
 use Rattle.warc_core.specs.{Kind.Kind, declared.next.TheConstants.HEAD_LIMIT}
 use Rattle.devices.specs.Device.{next_count}

@@ -1,5 +1,5 @@
 -- The archives of a scan: with which captures they are accepted, and why one isn't.
-use Rattle.std.specs.Prelude.{◌≡◌, ℕ, ◌<◌, ⊤, Bool, List, [], ◌∷◌, ◌++◌, length, map, take, get_or, false, true, Option}
+use Rattle.std.specs.Prelude.{◌≡◌, ℕ, ◌<◌, ⊤, Bool, List, [], ◌∷◌, ◌++◌, length, map, take, get_or, false, true}
 use Rattle.std.specs.Prelude.{None, IfSome}
 use Rattle.std.specs.List.{AllByRecursion, AllZip}
 use Rattle.warc_core.specs.Kind.{Kind}

@@ -1,6 +1,6 @@
 -- Laws of the definitions that the contracts cite.
 use Rattle.std.specs.List.{AllZip}
-use Rattle.std.specs.Prelude.{◌≡◌, ℕ, ◌-◌, ◌^◌, ◌<◌, ⊤, Bool, List, [], ◌∷◌, length, map, Option, Some, Err}
+use Rattle.std.specs.Prelude.{◌≡◌, ℕ, ◌-◌, ◌^◌, ◌<◌, ⊤, Bool, List, [], ◌∷◌, length, map, Option, Some, Ok, Err}
 use Rattle.std.specs.List.{AllByRecursion}
 use Rattle.warc_core.specs.Kind.{Kind}
 use Rattle.warc_core.specs.declared.fault.Cause.TheVariants as causes
@@ -76,5 +76,5 @@ abbrev pub ScanIsOne : Type 0
 ScanIsOne = (types : Kind → Bool) (names archives : List (List ℕ)) (inputs : List ToldArchive)
     (sizes text old : List ℕ) (new new' : Option (List ℕ)) (number number' : ℕ)
     → Known (map (λ input. input.bytes) inputs) archives
-    → Scanned types names inputs sizes text (Some old) new number
-    → Scanned types names inputs sizes text (Some old) new' number' → (new ≡ new') × (number ≡ number')
+    → Scanned types names inputs sizes text (Ok number) (Some old) new
+    → Scanned types names inputs sizes text (Ok number') (Some old) new' → (new ≡ new') × (number ≡ number')

@@ -1,6 +1,6 @@
 -- What a scan of archives owes.
 use Rattle.std.specs.Prelude.{◌≡◌, ℕ, ◌<◌, ◌≤◌, ⊤, Bool, List, length, drop, suc, true, false, Option, Result, Ok, Err}
-use Rattle.std.specs.Prelude.{IfErr}
+use Rattle.std.specs.Prelude.{IfErr, MatchResult}
 use Rattle.cdxj_core.specs.Members.{Member}
 use Rattle.warc_core.specs.Kind.{Kind}
 use Rattle.cdxj_core.specs.Entries.{EntryValue}
@@ -28,23 +28,16 @@ pub record IsAsked (ns text : List ℕ) (count : ℕ) (query : QueryValue) : Typ
 -- The types of records that are indexed; the archives, by their names and by what their inputs hold; the sizes of
 -- pages, and the query's text
 module _ (types : Kind → Bool) (names : List (List ℕ)) (inputs : List ToldArchive) (sizes text : List ℕ) where
-  -- The pages of the archives' captures were written: joined, they are exactly those that the query selects, each once,
-  -- in the order of places.
-  pub record Scanned (old new : Option (List ℕ)) (number : ℕ) : Type 0 where
+  -- The pages of the archives' captures were written, or after a fault a front of them: joined, they are exactly those
+  -- that the query selects, each once, in the order of places.
+  pub record Scanned (result : Result ℕ ScanFault) (old new : Option (List ℕ)) : Type 0 where
     pub query : QueryValue
     pub asked : IsAsked sizes text (length names) query
     pub captures : List (List EntryValue)
     pub indexed : AreIndexed types names inputs captures
     pub once : HaveOwnPlaces (all_captures captures)
-    pub wrote : WrotePages query (captured_lines captures) sizes old new number
-
-  -- a front of those pages was written
-  pub record ScannedInPart (old new : Option (List ℕ)) : Type 0 where
-    pub query : QueryValue
-    pub asked : IsAsked sizes text (length names) query
-    pub captures : List (List EntryValue)
-    pub indexed : AreIndexed types names inputs captures
-    pub part : WrotePagesInPart query (captured_lines captures) sizes old new
+    pub wrote : MatchResult result (WrotePages query (captured_lines captures) sizes old new)
+        (λ _. WrotePagesInPart query (captured_lines captures) sizes old new)
 
   -- Why nothing or no more was written. What comes before the fault in this order isn't at fault.
   unfoldable pub IsScanFault : ScanFault → Type 0

@@ -13,7 +13,7 @@ ghost use Rattle.source_core.specs.Slices.{slice_text};
 ghost use Rattle.query_core.specs.declared.merging.TheConstants.{SOURCES_LIMIT};
 ghost use Rattle.query_core.specs.Paging.{are_sizes};
 ghost use Rattle.scan_core.specs.Failures.{CountsWriting, CountsInputs, CountsOutput};
-ghost use Rattle.scan_core.specs.Scanning.{Scanned, ScannedInPart, WritesKnownPages, IsScanFault};
+ghost use Rattle.scan_core.specs.Scanning.{Scanned, WritesKnownPages, IsScanFault};
 ghost use Rattle.scan_core.specs.Scanning.{IsBeforeWriting, LeavesUnread};
 
 use crate::fault::ScanFault;
@@ -85,18 +85,13 @@ pub fn scan<A: Archive, O: Output>(
     requires { AllByRecursion (λ n. IsUnread (A.state n.archive)) inputs.old }
     ensures names { map (λ n. string_bytes n.name) inputs.new
         ≡ map (λ n. string_bytes n.name) inputs.old }
-    ensures scanned { IfOk result
-        (Scanned (includes types) (map (λ n. string_bytes n.name) inputs.old)
-        (map (λ n. told_of (A.state n.archive)) inputs.old) sizes.now query.now
-        (O.written out.old) (O.written out.new)) }
+    ensures scanned { IfErr result (λ fault. IsBeforeWriting fault → ⊥) → Scanned (includes types)
+        (map (λ n. string_bytes n.name) inputs.old)
+        (map (λ n. told_of (A.state n.archive)) inputs.old) sizes.now query.now result
+        (O.written out.old) (O.written out.new) }
     ensures fault { IfErr result
         (IsScanFault (includes types) (map (λ n. string_bytes n.name) inputs.old)
         (map (λ n. told_of (A.state n.archive)) inputs.old) sizes.now query.now) }
-    ensures part { IfErr result (λ fault.
-        (IsBeforeWriting fault → ⊥) → ScannedInPart (includes types)
-        (map (λ n. string_bytes n.name) inputs.old)
-        (map (λ n. told_of (A.state n.archive)) inputs.old) sizes.now query.now
-        (O.written out.old) (O.written out.new)) }
     ensures unwritten { IfErr result (λ fault. IsBeforeWriting fault → out.new ≡ out.old) }
     ensures unread { IfErr result (LeavesUnread inputs.old inputs.new) }
     ensures inputs { CountsInputs result (map (λ n. (A.state n.archive).failures) inputs.old)

@@ -8,7 +8,7 @@ use door_examples::lines::{key, line, resume_key};
 use door_examples::queries::{PageFault, page, page_of_two};
 use door_examples::records::{count_records, first_head};
 use door_examples::scans::{in_memory, write_pages};
-use door_examples::shelf::{Shelf, perform_on_shelf};
+use door_examples::shelf::{Shelf, perform_on_shelf, run_on_shelf};
 use fixtures::{LETTERS, OFFSET_5, OFFSET_10, RESPONSE, RESPONSE_LINE};
 use index_core::{IndexFault, PlainArchive};
 use query_core::{Query, Report, SliceSource};
@@ -171,15 +171,20 @@ fn one_name(alloc: Global, name: &str) -> Result<Vec<String>, AllocError> {
     Ok(names)
 }
 
-/// Performs the task over the archive and the index in memory. Returns `true` if it ends as done, and has written this text.
-fn writes(rt: &HostRuntime, task: &Task, text: &[u8]) -> bool {
-    let console = Console::new(rt, Program::Warcdx);
-    let shelf = Shelf {
-        alloc: rt.alloc(),
+/// Returns the archive, the index and a query in memory.
+fn shelf(alloc: Global) -> Shelf<'static> {
+    Shelf {
+        alloc,
         archive: ARCHIVE,
         index: INDEX,
         input: b"key=org,a)/&fl=urlkey\n",
-    };
+    }
+}
+
+/// Performs the task over the archive and the index in memory. Returns `true` if it ends as done, and has written this text.
+fn writes(rt: &HostRuntime, task: &Task, text: &[u8]) -> bool {
+    let console = Console::new(rt, Program::Warcdx);
+    let shelf = shelf(rt.alloc());
     let mut out = Gather::new(rt.alloc());
     let outcome = perform_on_shelf(&console, &shelf, task, &mut out);
     matches!(outcome, Outcome::Done) && out.bytes() == text
@@ -208,5 +213,38 @@ fn tasks_on_indexes_write_their_texts(rt: HostRuntime) -> Result<(), Fail> {
     assert!(rt; writes(&rt, &check, b"a.cdxj 1\n"));
     assert!(rt; writes(&rt, &merge, INDEX));
     assert!(rt; writes(&rt, &serve, b"org,a)/\n.\n"));
+    Ok(())
+}
+
+/// Runs the program over the archive and the index in memory, with these arguments. Returns `true` if it ends with this
+/// status, and has written this text.
+fn ends(rt: &HostRuntime, arguments: &[&str], status: u8, text: &[u8]) -> Result<bool, AllocError> {
+    let console = Console::new(rt, Program::Warcdx);
+    let shelf = shelf(rt.alloc());
+    let mut words = Vec::new(rt.alloc());
+    for argument in arguments {
+        words.push(String::from_str(rt.alloc(), argument)?)?;
+    }
+    let mut out = Gather::new(rt.alloc());
+    let ended = run_on_shelf(&console, &shelf, &words, &mut out);
+    Ok(ended == status && out.bytes() == text)
+}
+
+#[test]
+fn the_program_ends_with_its_status(rt: HostRuntime) -> Result<(), Fail> {
+    assert!(rt; ends(&rt, &["list", "a.warc"], 0, b"0 201 resource\n")?);
+    assert!(rt; ends(&rt, &["verify", "a.warc"], 0, b"0 absent\n")?);
+    assert!(rt;
+        ends(
+            &rt,
+            &["query", "key=org,a)/&fl=urlkey,offset", "a.cdxj"],
+            0,
+            b"org,a)/ 0\n"
+        )?
+    );
+    assert!(rt; ends(&rt, &["serve", "a.cdxj"], 0, b"org,a)/\n.\n")?);
+    assert!(rt; ends(&rt, &["--version"], 0, b"warcdx 0.1.0\n")?);
+    assert!(rt; ends(&rt, &["query", "limit=1", "a.cdxj"], 1, b"")?);
+    assert!(rt; ends(&rt, &["lst", "a.warc"], 2, b"")?);
     Ok(())
 }

@@ -8,8 +8,8 @@ use Rattle.source_core.proofs.Words.{take, take-take, take_more, true}
 use Rattle.std.specs.Prelude.{ltb}
 use Rattle.source_core.specs.declared.source.Source.{Ghosts}
 use Rattle.source_core.proofs.{FrontLemmas.reads_on, Parts.ended, Parts.given_more, Parts.given_out}
-use Rattle.cdxj_core.proofs.{EntryRead.body_of-feed, UnescapedAscii.unescaped_front}
-use Rattle.cdxj_core.specs.Plain.{is_unescaped_ascii}
+use Rattle.cdxj_core.proofs.{EntryRead.body_of-feed, PrintableAscii.printable_front}
+use Rattle.cdxj_core.specs.Plain.{is_printable_ascii}
 
 -- a source was read and did not fail, and the window holds bytes of it
 pub record HasRead {S : Type 0} (device : Ghosts S) (old new : S) (window : HeldBytes) : Type 0 where
@@ -62,16 +62,16 @@ held_reads text extent offset n front held new t ends s e inside grown part begi
 
 -- ---- lines that were read ahead
 
-no_feed : (xs : List ℕ) → list_all is_unescaped_ascii xs ≡ true → NoFeed xs
+no_feed : (xs : List ℕ) → list_all is_printable_ascii xs ≡ true → NoFeed xs
 no_feed [] h = tt
 no_feed (x ∷ xs) h = grind (arith, no_feed xs)
 
 -- a line feed ends the bytes of ASCII that are no control and no backslash
-pub unescaped_line : (held : List ℕ) (body : ℕ) → body ≡ prefix_len is_unescaped_ascii held → body < length held
+pub printable_line : (held : List ℕ) (body : ℕ) → body ≡ prefix_len is_printable_ascii held → body < length held
     → get_or held body 0 ≡ 10
-    → IsHeldLine held (body + 1) × (list_all is_unescaped_ascii (body_of (take (body + 1) held)) ≡ true)
-unescaped_line held body run inside feed =
-    let all : list_all is_unescaped_ascii (take body held) ≡ true = grind (arith, unescaped_front) in
+    → IsHeldLine held (body + 1) × (list_all is_printable_ascii (body_of (take (body + 1) held)) ≡ true)
+printable_line held body run inside feed =
+    let all : list_all is_printable_ascii (take body held) ≡ true = grind (arith, printable_front) in
     let whole : take (body + 1) held ≡ take body held ++ 10 ∷ [] = grind (arith, take_more held body 0 inside) in
     grind (arith, ap, body_of-feed, no_feed)
 

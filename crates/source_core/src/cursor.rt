@@ -9,7 +9,7 @@ use crate::fault::LineReadFault;
 use crate::line_part::line_part;
 use crate::source::Source;
 use crate::window::Window;
-use cdxj_core::{LINE_LIMIT, unescaped_length};
+use cdxj_core::{LINE_LIMIT, printable_length};
 use devices::PIECE;
 use std::alloc::{AllocError, Global};
 use std::marker::Model;
@@ -19,8 +19,8 @@ use std::marker::Model;
 pub enum LineBytes {
     /// Any bytes.
     Any,
-    /// Characters of ASCII other than controls and backslashes, but for the line feed.
-    Unescaped,
+    /// Characters of ASCII other than controls, but for the line feed.
+    Printable,
 }
 
 /// Reads the lines of a source from an offset on. It does not hold the source; each call takes it.
@@ -52,7 +52,7 @@ impl Model for Cursor {
 impl Cursor {
     ghost use Rattle.std.specs.List.{list_all};
     ghost use Rattle.cdxj_core.specs.Lines.{body_of};
-    ghost use Rattle.cdxj_core.specs.Plain.{is_unescaped_ascii};
+    ghost use Rattle.cdxj_core.specs.Plain.{is_printable_ascii};
     ghost use Rattle.source_core.specs.IndexLines.{lines, first_length, first_then, line_found};
     ghost use Rattle.source_core.specs.Cursors.{Filled, IsFresh, Stands, reach, CountsLineRead};
     ghost use Rattle.source_core.specs.Cursors.{IsHeldLine};
@@ -112,13 +112,13 @@ impl Cursor {
         ensures line { IfSome result (λ l. (l.0.now ≡ take (length l.0.now) self.now.ahead)
             × IsHeldLine self.now.ahead (length l.0.now)) }
         ensures none { IfNone result (NoFeed self.now.ahead) }
-        ensures unescaped { IfSome result (λ l. l.1 ≡ LineBytes.Unescaped
-            → list_all is_unescaped_ascii (body_of l.0.now) ≡ true) }
+        ensures printable { IfSome result (λ l. l.1 ≡ LineBytes.Printable
+            → list_all is_printable_ascii (body_of l.0.now) ≡ true) }
     {
         let held = self.window.from(self.at);
-        let body = unescaped_length(held);
+        let body = printable_length(held);
         if body < held.len() && held[body] == b'\n' {
-            return Some((&held[..body + 1], LineBytes::Unescaped));
+            return Some((&held[..body + 1], LineBytes::Printable));
         }
         let (length, ends) = line_part(held);
         if ends {

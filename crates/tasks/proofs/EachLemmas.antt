@@ -1,9 +1,9 @@
 -- What is done with one file after another.
 use Rattle.std.proofs.Common.{arith, ◌≡◌, ℕ, Bool, true, false, List, [], ◌∷◌, MatchBool, Bor, MutBor, ap, subst}
 use Rattle.std.specs.Fn.{Shared}
-use Rattle.tasks.specs.declared.outcome.Outcome.{Outcome}
+use Rattle.outcomes.specs.declared.outcome.Outcome.{Outcome}
 use Rattle.tasks.specs.Each.{GoesOver, ReturnsWithState}
-use Rattle.tasks.specs.Outcome.{ends_command, worse_of}
+use Rattle.outcomes.specs.Outcome.{ends_command, worse_of}
 
 -- what follows from a fact in either case
 match_bool-map : {A B C D : Type 0} (b : Bool) → (A → C) → (B → D) → MatchBool b A B → MatchBool b C D

@@ -3,7 +3,7 @@ use Rattle.std.proofs.Common.{arith, ◌≡◌, ℕ, ◌<◌, List, length, get_
 use Rattle.std.proofs.Common.{◌∙◌}
 use Rattle.std.proofs.lemmas.List.{length-map, get_or-map}
 use Rattle.command_line.specs.Words.{texts}
-use Rattle.tasks.specs.declared.outcome.Outcome.{Outcome}
+use Rattle.outcomes.specs.declared.outcome.Outcome.{Outcome}
 use Rattle.tasks.specs.Opening.{AreUnopenedIndexes, IsUnopened, IsUnopenedIndex}
 
 any_text : (Failed : List ℕ → Type 0) (names : List (String Global)) (i : ℕ) (name : String Global) (text : List ℕ)

@@ -9,7 +9,6 @@ use Rattle.tasks.specs.Indexing.{archive_name}
 use Rattle.std.specs.List.{AllByRecursion, AllZip}
 use Rattle.archives.specs.State.{ArchiveState, IsUnread, ToldArchive, told_of}
 use Rattle.tasks.specs.Opening.{OpensAs}
-use Rattle.tasks.proofs.ToldLemmas.{Agrees}
 use Rattle.tasks.specs.Scanning.{AreOpened, archive_names, inputs}
 
 -- the values of one more
@@ -45,17 +44,13 @@ opened-more state Tells given before after name named input old new grown is has
       rw (grown, left) (zip-more (λ name s. OpensAs (Tells name) s) _ _ _ _ opened.opened has);
 }
 
--- archives that were opened may be told so, and none of them was read
+-- archives that were opened are as they may be told, and none of them was read
 pub opened_told : {A : Type 0} (state : A → ArchiveState) (Tells : List ℕ → ToldArchive → Type 0)
     (names : List (List ℕ)) (archives : List (Named A))
     → AllZip (λ name s. OpensAs (Tells name) s) names (map (λ archive. state archive.archive) archives)
-    → (told : List ToldArchive) × AllZip Tells names told
-    × AllZip Agrees told (map (λ archive. told_of (state archive.archive)) archives)
-opened_told state Tells [] [] o = ([], tt, tt)
-opened_told state Tells (name ∷ names) (a ∷ archives) o =
-    let more = opened_told state Tells names archives o.1 in
-    let first : Agrees o.0.0 (told_of (state a.archive)) = record { packing = o.0.2.packing; bytes = o.0.2.bytes } in
-    (o.0.0 ∷ more.0, (o.0.1, more.1), (first, more.2))
+    → AllZip Tells names (map (λ archive. told_of (state archive.archive)) archives)
+opened_told state Tells [] [] o = tt
+opened_told state Tells (name ∷ names) (a ∷ archives) o = (o.0.1, opened_told state Tells names archives o.1)
 opened_told state Tells [] (a ∷ archives) o = absurd o
 opened_told state Tells (name ∷ names) [] o = absurd o
 
@@ -64,5 +59,5 @@ pub all_unread : {A : Type 0} (state : A → ArchiveState) (Tells : List ℕ →
     → AllZip (λ name s. OpensAs (Tells name) s) names (map (λ archive. state archive.archive) archives)
     → AllByRecursion (λ archive. IsUnread (state archive.archive)) archives
 all_unread state Tells names [] o = tt
-all_unread state Tells (name ∷ names) (a ∷ archives) o = (o.0.2.unread, all_unread state Tells names archives o.1)
+all_unread state Tells (name ∷ names) (a ∷ archives) o = (o.0.0, all_unread state Tells names archives o.1)
 all_unread state Tells [] (a ∷ archives) o = absurd o

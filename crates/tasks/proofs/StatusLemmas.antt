@@ -1,17 +1,64 @@
 -- Which outcomes have the exit status 0.
 use native.Mathlib.Omega.{arith}
-use Rattle.std.proofs.Common.{◌≡◌, Bool, true, false, refl}
-use Rattle.tasks.specs.declared.outcome.Outcome.TheVariants as outcomes
-use Rattle.tasks.specs.declared.outcome.Outcome.{Outcome}
-use Rattle.tasks.specs.Outcome.{ZeroIsDone, exit_status_of, flushed_outcome}
+use Rattle.std.proofs.Common.{◌≡◌, ℕ, List, [], Option, Bool, true, false, refl, sym, subst, inl, inr, Result, Ok, Err}
+use Rattle.std.specs.Prelude.{OnOk, is_ok}
+use Rattle.command_line.specs.Commands.{Meaning, Refusal, Help, Usage}
+use Rattle.devices.specs.Device.{CountsFailure}
+use Rattle.outcomes.specs.declared.outcome.Outcome.TheVariants as outcomes
+use Rattle.outcomes.specs.declared.outcome.Outcome.{Outcome}
+use Rattle.outcomes.specs.Outcome.{exit_status_of, flushed_outcome}
+use Rattle.tasks.specs.Performing.{Openings, Performs}
+use Rattle.tasks.specs.Running.{Flushes, IsDoneAndFlushed, PerformsAndFlushes, PrintsText, RunsWords, WritesAndFlushes}
+use Rattle.tasks.specs.Running.{flushed_status}
 
-pub zero_is_done : ZeroIsDone
+-- the status of the outcome that is said at the end
+pub flushed_is : (outcome : Outcome) (flushed : Bool)
+    → exit_status_of (flushed_outcome outcome flushed) ≡ flushed_status outcome flushed
 unfolding exit_status_of
-zero_is_done outcomes.Done true e = (refl, refl)
-zero_is_done outcome flushed e = grind arith
+flushed_is outcome true = refl
+flushed_is outcome false = grind arith
 
--- a command that ends as done after its output was flushed was done before
-pub done_before_flush : (outcome : Outcome) (flushed : Bool) → flushed_outcome outcome flushed ≡ outcomes.Done
-    → outcome ≡ outcomes.Done
-done_before_flush outcome true e = e
-done_before_flush outcome false e = grind arith
+zero_is_flushed : (outcome : Outcome) (flushed : Bool) → flushed_status outcome flushed ≡ 0
+    → (outcome ≡ outcomes.Done) × (flushed ≡ true)
+unfolding exit_status_of
+zero_is_flushed outcomes.Done true e = (refl, refl)
+zero_is_flushed outcome flushed e = grind arith
+
+module _ {O : Type 0} (written flushed : O → Option (List ℕ)) (failures : O → ℕ) where
+  -- a call that flushes
+  pub flush_flushes : {A E : Type 0} (result : Result A E) (is_flushed : Bool) (old new : O)
+      → is_flushed ≡ is_ok result → OnOk result (flushed new ≡ written new)
+      → CountsFailure result (failures old) (failures new)
+      → Flushes written flushed failures is_flushed old new
+  flush_flushes (Ok answer) is_flushed old new e all counts = rw e (all, counts)
+  flush_flushes (Err fault) is_flushed old new e all counts = rw e counts
+
+  pub prints : {A E : Type 0} (text : List ℕ) (result : Result A E) (is_printed : Bool) (old new : O) (status : ℕ)
+      → is_printed ≡ is_ok result → OnOk result (WritesAndFlushes written flushed failures text old new)
+      → status ≡ flushed_status outcomes.Done is_printed → PrintsText written flushed failures text old new status
+  unfolding exit_status_of
+  prints text (Ok answer) is_printed old new status e all is = inl (rw (is, e) refl, all)
+  prints text (Err fault) is_printed old new status e all is = inr (rw (is, e) refl)
+
+  pub lacks_memory : (files : Openings) (wanted : Result Meaning Refusal) (old : O)
+      → RunsWords written flushed failures files wanted old old 3
+  lacks_memory files (Ok task) old = inr (refl, refl)
+  lacks_memory files (Err Help) old = ([], inr refl)
+  lacks_memory files (Err Usage) old = inr (refl, refl)
+
+  pub done_at_0 : (files : Openings) (task : Meaning) (old new : O) (status : ℕ)
+      → PerformsAndFlushes written flushed failures files task old new status → status ≡ 0
+      → IsDoneAndFlushed written flushed failures files task old new
+  done_at_0 files task old new status runs zero =
+      let done = zero_is_flushed runs.outcome runs.is_flushed (rw (sym runs.status_is) zero) in
+      let flushes : Flushes written flushed failures true runs.ended new =
+      subst (λ is_flushed. Flushes written flushed failures is_flushed runs.ended new) done.1 runs.flushes in
+      record {
+        begun = runs.begun;
+        ended = runs.ended;
+        begins = runs.begins;
+        performs = subst (λ outcome. Performs files (written runs.begun) (written runs.ended)
+            (runs.ended ≡ runs.begun) outcome task) done.0 runs.performs;
+        kept = runs.kept;
+        all = flushes.0;
+      }

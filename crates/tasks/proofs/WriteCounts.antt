@@ -1,9 +1,9 @@
 -- The output's failures, by how a command ends.
 use Rattle.std.proofs.Common.{arith, ◌≡◌, ℕ, Bool, List, [], ◌∷◌, MatchBool, true, false, refl, subst}
-use Rattle.tasks.specs.declared.outcome.Outcome.{Outcome}
+use Rattle.outcomes.specs.declared.outcome.Outcome.{Outcome}
 use Rattle.tasks.specs.Each.{GoesOver}
 use Rattle.tasks.specs.Opening.{IsUnopened}
-use Rattle.tasks.specs.Outcome.{ends_command, worse_of}
+use Rattle.outcomes.specs.Outcome.{ends_command, worse_of}
 use Rattle.tasks.specs.Writes.{CountsWrites}
 
 -- what isn't opened is not written

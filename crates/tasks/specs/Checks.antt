@@ -5,8 +5,8 @@ use Rattle.devices.specs.Device.{AppendsPrefix}
 use Rattle.query_core.specs.declared.fault.AnswerFault.{AnswerFault}
 use Rattle.query_core.specs.declared.fault.AnswerFault.TheVariants as answers
 use Rattle.query_core.specs.Checking.{IsChecked, IsCheckFault}
-use Rattle.tasks.specs.declared.outcome.Outcome.{Outcome}
-use Rattle.tasks.specs.declared.outcome.Outcome.TheVariants as outcomes
+use Rattle.outcomes.specs.declared.outcome.Outcome.{Outcome}
+use Rattle.outcomes.specs.declared.outcome.Outcome.TheVariants as outcomes
 use Rattle.tasks.specs.Each.{GoesOver}
 use Rattle.tasks.specs.Opening.{IsUnopenedIndex, OpensFirst}
 

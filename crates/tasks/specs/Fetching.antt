@@ -3,8 +3,8 @@ use Rattle.std.specs.Prelude.{◌≡◌, ℕ, List, Option, Result, IfErr}
 use Rattle.index_core.specs.declared.fault.IndexFault.{IndexFault}
 use Rattle.archives.specs.State.{ToldArchive}
 use Rattle.index_core.specs.FetchingIn.{FetchesIn, IsUnwrittenBy}
-use Rattle.tasks.specs.declared.outcome.Outcome.{Outcome}
-use Rattle.tasks.specs.Outcome.{outcome_of}
+use Rattle.outcomes.specs.declared.outcome.Outcome.{Outcome}
+use Rattle.outcomes.specs.Outcome.{outcome_of}
 
 -- what was written of the record at an offset of the archive, by the outcome: nothing for a fault that was met before
 pub record WritesRecord (len : Option ℕ) (offset : ℕ) (archive : ToldArchive) (before after : Option (List ℕ))

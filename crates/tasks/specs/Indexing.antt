@@ -14,11 +14,11 @@ use Rattle.archives.specs.Packing.{form_of}
 use Rattle.archives.specs.State.{ToldArchive}
 use Rattle.index_core.specs.Adding.{Adds}
 use Rattle.index_core.specs.Indexing.{Held, IsName, IsWriteFault, index_text, is_among}
-use Rattle.tasks.specs.declared.outcome.Outcome.{Outcome}
-use Rattle.tasks.specs.declared.outcome.Outcome.TheVariants as outcomes
+use Rattle.outcomes.specs.declared.outcome.Outcome.{Outcome}
+use Rattle.outcomes.specs.declared.outcome.Outcome.TheVariants as outcomes
 use Rattle.tasks.specs.Each.{GoesOver}
 use Rattle.tasks.specs.Opening.{IsUnopened, OpensFirst, WithTold}
-use Rattle.tasks.specs.Outcome.{outcome_of, ends_command}
+use Rattle.outcomes.specs.Outcome.{outcome_of, ends_command}
 
 -- `/`
 abbrev pub is_slash : ℕ → Bool

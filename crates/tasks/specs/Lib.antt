@@ -5,9 +5,9 @@ pub mod Fetching
 pub mod Indexing
 pub mod Merging
 pub mod Opening
-pub mod Outcome
 pub mod Performing
 pub mod Queries
 pub mod Reports
 pub mod Scanning
-pub mod Words
+pub mod Buffers
+pub mod Running

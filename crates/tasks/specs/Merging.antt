@@ -1,24 +1,19 @@
 -- The merge of indexes that a command writes.
 use Rattle.std.specs.Prelude.{◌≡◌, ℕ, List, length, Option, Result, IfOk, IfErr}
-use Rattle.devices.specs.Device.{AppendsPrefix}
-use Rattle.merge_core.specs.Collections.{Merged, OverIndexes, OverTexts, collection}
-use Rattle.merge_core.specs.SourceLines.{WritesLinesOf}
-use Rattle.merge_core.specs.Written.{lines_text}
+use Rattle.merge_core.specs.Collections.{AreIndexes, OverTexts}
+use Rattle.merge_core.specs.SourceLines.{HoldsOfLines, WritesLines}
 use Rattle.query_core.specs.declared.fault.AnswerFault.{AnswerFault}
 use Rattle.query_core.specs.IndexFaults.{IsAnswerFaultOf}
 use Rattle.query_core.specs.Refusals.{Refuses, too_many}
-use Rattle.tasks.specs.declared.outcome.Outcome.{Outcome}
-use Rattle.tasks.specs.Queries.{answered_outcome}
+use Rattle.outcomes.specs.declared.outcome.Outcome.{Outcome}
+use Rattle.outcomes.specs.Outcome.{answered_outcome}
 
--- sources were merged: they are indexes, and their merge was written, unless it was refused; in any case lines of
--- theirs were written, which rise
+-- sources were merged: lines of theirs that rise were written, whole or in part; they are indexes, unless it was refused
 pub record MergesIndexes (told : List (Option (List ℕ))) (before after : Option (List ℕ)) (unchanged : Type 0)
     (outcome : Outcome) : Type 0 where
   pub answer : Result ℕ AnswerFault
   pub outcome_is : outcome ≡ answered_outcome answer
   pub refused : Refuses (too_many (length told)) answer unchanged
-  pub merged : OverTexts told (λ texts. IfOk answer (Merged texts before after))
-  pub part : OverIndexes told
-      (λ texts indexes. AppendsPrefix before after (lines_text (collection indexes)))
-  pub lines : WritesLinesOf (λ number. number) told answer before after
+  pub merged : HoldsOfLines told (WritesLines (λ number. number) answer before after)
+  pub indexes : OverTexts told (λ texts. IfOk answer (λ _. AreIndexes texts))
   pub fault : IfErr answer (IsAnswerFaultOf told)

@@ -1,10 +1,9 @@
 -- What the program does for each task.
-use Rattle.std.specs.Prelude.{⊤, ℕ, List, Option, None, map}
+use Rattle.std.specs.Prelude.{ℕ, List, Option, map}
 use Rattle.capture_core.specs.Types.{includes}
 use Rattle.command_line.specs.Commands.{Meaning, ToList, ToVerify, ToIndex, ToMerge, ToCheck, ToQuery, ToPages, ToServe}
 use Rattle.command_line.specs.Commands.{ToGet, ToScan}
-use Rattle.tasks.specs.declared.outcome.Outcome.{Outcome}
-use Rattle.tasks.specs.declared.outcome.Outcome.TheVariants as outcomes
+use Rattle.outcomes.specs.declared.outcome.Outcome.{Outcome}
 use Rattle.tasks.specs.declared.reports.ArchiveReport.TheVariants as reports
 use Rattle.tasks.specs.Checks.{ChecksIndexes}
 use Rattle.tasks.specs.Fetching.{WritesRecord}
@@ -17,13 +16,24 @@ use Rattle.tasks.specs.Reports.{ReportsOn}
 use Rattle.tasks.specs.Scanning.{ScansNamed}
 
 -- What opens files tells: how the archive of a name may be, and the bytes of the index of a name, as far as they are known; that the
--- opening of one failed; and the bytes of standard input.
+-- opening of one failed; and which bytes standard input may have.
 pub record Openings : Type 1 where
   pub TellsArchive : List ℕ → ToldArchive → Type 0
   pub index_of : List ℕ → Option (List ℕ)
   pub ArchiveFailed : List ℕ → Type 0
   pub IndexFailed : List ℕ → Type 0
-  pub input : Option (List ℕ)
+  pub TellsInput : Option (List ℕ) → Type 0
+
+-- what the files of an opener tell
+abbrev pub openings : {F : Type 0} → (F → List ℕ → ToldArchive → Type 0) → (F → List ℕ → Option (List ℕ))
+    → (F → List ℕ → Type 0) → (F → List ℕ → Type 0) → (F → Option (List ℕ) → Type 0) → F → Openings
+openings TellsArchive index_of ArchiveFailed IndexFailed TellsInput files = record {
+  TellsArchive = TellsArchive files;
+  index_of = index_of files;
+  ArchiveFailed = ArchiveFailed files;
+  IndexFailed = IndexFailed files;
+  TellsInput = TellsInput files;
+}
 
 -- what was written before and after; that the output is unchanged; and the outcome
 module _ (files : Openings) (before after : Option (List ℕ)) (unchanged : Type 0) (outcome : Outcome) where
@@ -44,26 +54,10 @@ module _ (files : Openings) (before after : Option (List ℕ)) (unchanged : Type
       OverIndexFiles names (AnswersQuery query (map files.index_of names) before after unchanged outcome))
   Performs (ToPages sizes text names) = ReadsFirst text outcome unchanged (λ query.
       OverIndexFiles names (AnswersPages query sizes (map files.index_of names) before after unchanged outcome))
-  Performs (ToServe names) =
-      OverIndexFiles names (AnswersLines (map files.index_of names) files.input before after unchanged outcome)
+  Performs (ToServe names) = (input : Option (List ℕ)) × files.TellsInput input
+      × OverIndexFiles names (AnswersLines (map files.index_of names) input before after unchanged outcome)
   Performs (ToGet len offset name) =
       OpensFirst (IsUnopened (files.ArchiveFailed name) outcome) unchanged
       (WithTold (files.TellsArchive name) (λ told. WritesRecord len offset told before after unchanged outcome))
   Performs (ToScan types input sizes text names) = ScansNamed files.TellsArchive files.ArchiveFailed (includes types) input
       sizes text names before after unchanged outcome
-
--- the files of the system, of which nothing is told but how archives may be
-abbrev pub system_files : (ToldArchive → Type 0) → Openings
-system_files MayBe = record {
-  TellsArchive = λ _. MayBe;
-  index_of = λ _. None;
-  ArchiveFailed = λ _. ⊤;
-  IndexFailed = λ _. ⊤;
-  input = None;
-}
-
--- a task ended as done over the files of the system: what it then writes was written to an output
-pub record IsDone (MayBe : ToldArchive → Type 0) (task : Meaning) : Type 0 where
-  pub before : Option (List ℕ)
-  pub after : Option (List ℕ)
-  pub performs : Performs (system_files MayBe) before after ⊤ outcomes.Done task

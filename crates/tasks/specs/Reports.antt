@@ -9,13 +9,13 @@ use Rattle.archives.specs.Packing.{form_of}
 use Rattle.archives.specs.State.{ToldArchive}
 use Rattle.index_core.specs.Listing.{Lists}
 use Rattle.index_core.specs.Verifying.{Verifies}
-use Rattle.tasks.specs.declared.outcome.Outcome.{Outcome}
-use Rattle.tasks.specs.declared.outcome.Outcome.TheVariants as outcomes
+use Rattle.outcomes.specs.declared.outcome.Outcome.{Outcome}
+use Rattle.outcomes.specs.declared.outcome.Outcome.TheVariants as outcomes
 use Rattle.tasks.specs.declared.reports.ArchiveReport.{ArchiveReport}
 use Rattle.tasks.specs.declared.reports.ArchiveReport.TheVariants as reports
 use Rattle.tasks.specs.Each.{GoesOver}
 use Rattle.tasks.specs.Opening.{IsUnopened, OpensFirst, WithTold}
-use Rattle.tasks.specs.Outcome.{outcome_of, verification_outcome}
+use Rattle.outcomes.specs.Outcome.{outcome_of, verification_outcome}
 
 -- `NAME:`
 abbrev pub heading : List ℕ → List ℕ

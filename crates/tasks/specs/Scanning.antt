@@ -1,17 +1,17 @@
 -- The pages of a query over archives that a command writes.
-use Rattle.std.specs.Prelude.{◌≡◌, ℕ, Any, Bool, List, map, Option, Result, Ok, Err, IfOk, IfErr, string_bytes}
+use Rattle.std.specs.Prelude.{◌≡◌, ℕ, Any, Bool, List, map, Option, Result, Ok, Err, IfErr, string_bytes}
 use Rattle.std.specs.List.{AllZip}
 use Rattle.warc_core.specs.Kind.{Kind}
 use Rattle.archives.specs.State.{ArchiveState, ToldArchive}
 use Rattle.scan_core.specs.declared.fault.ScanFault.{ScanFault}
 use Rattle.scan_core.specs.declared.fault.ScanFault.TheVariants as scans
 use Rattle.scan_core.specs.declared.named.Named.{Named}
-use Rattle.scan_core.specs.Scanning.{Scanned, ScannedInPart, IsScanFault, IsBeforeWriting}
+use Rattle.scan_core.specs.Scanning.{Scanned, IsScanFault, IsBeforeWriting}
 use Rattle.tasks.specs.Indexing.{archive_name}
 use Rattle.tasks.specs.Opening.{IsUnopened, OpensAs, OpensFirst}
 use Rattle.tasks.specs.Queries.{ReadsFirst}
-use Rattle.tasks.specs.declared.outcome.Outcome.{Outcome}
-use Rattle.tasks.specs.declared.outcome.Outcome.TheVariants as outcomes
+use Rattle.outcomes.specs.declared.outcome.Outcome.{Outcome}
+use Rattle.outcomes.specs.declared.outcome.Outcome.TheVariants as outcomes
 
 -- the names under which archives are scanned
 abbrev pub archive_names : {I : Type 0} → List (Named I) → List (List ℕ)
@@ -40,10 +40,9 @@ pub record ScansArchives (types : Kind → Bool) (names : List (List ℕ)) (inpu
     (sizes query : List ℕ) (before after : Option (List ℕ)) (outcome : Outcome) : Type 0 where
   pub answer : Result ℕ ScanFault
   pub outcome_is : outcome ≡ scan_outcome answer
-  pub scanned : IfOk answer (Scanned types names inputs sizes query before after)
+  pub scanned : IfErr answer (λ fault. IsBeforeWriting fault → ⊥)
+      → Scanned types names inputs sizes query answer before after
   pub fault : IfErr answer (IsScanFault types names inputs sizes query)
-  pub part : IfErr answer (λ fault. (IsBeforeWriting fault → ⊥)
-      → ScannedInPart types names inputs sizes query before after)
   pub unwritten : IfErr answer (λ fault. IsBeforeWriting fault → after ≡ before)
 
 -- archives that may be told so by these names were scanned

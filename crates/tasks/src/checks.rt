@@ -6,14 +6,12 @@ ghost use Rattle.command_line.specs.Words.{texts};
 ghost use Rattle.tasks.specs.Checks.{ChecksIndex, ChecksIndexes, ChecksOne, WritesCount, checked_line, count_text};
 ghost use Rattle.tasks.specs.Writes.{CountsWrites};
 
-use crate::console::Console;
 use crate::each::with_each;
-use crate::faults::say_answer_fault;
 use crate::opening::Opener;
-use crate::outcome::Outcome;
 use arrayvec::ArrayString;
 use devices::DeviceFault;
 use itoa::Buffer;
+use outcomes::{Console, Outcome, say_answer_fault};
 use query_core::{AnswerFault, Source, check};
 use std::rt::Runtime;
 use warc_core::{Output, put};

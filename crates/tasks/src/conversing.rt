@@ -5,10 +5,8 @@ ghost use Rattle.tasks.specs.Opening.{OpensFirst, AreUnopenedIndexes};
 ghost use Rattle.tasks.specs.Queries.{AnswersLines};
 ghost use Rattle.tasks.specs.Writes.{CountsWrites};
 
-use crate::console::Console;
-use crate::faults::answered_outcome;
 use crate::opening::{Opener, open_indexes};
-use crate::outcome::Outcome;
+use outcomes::{Console, Outcome, answered_outcome};
 use query_core::serve;
 use std::rt::Runtime;
 use warc_core::{Input, Output};

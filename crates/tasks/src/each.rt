@@ -1,10 +1,9 @@
 //! The files of a command, one after another.
 ghost use Rattle.command_line.specs.Words.{texts};
 ghost use Rattle.tasks.specs.Each.{GoesOver, ReturnsWithState};
-ghost use Rattle.tasks.specs.declared.outcome.Outcome.TheVariants.{Done};
+ghost use Rattle.outcomes.specs.declared.outcome.Outcome.TheVariants.{Done};
 
-use crate::exit_status::{ends_command, worse};
-use crate::outcome::Outcome;
+use outcomes::{Outcome, ends_command, worse};
 
 /// Calls `act` for each name in turn, with the state that the calls share. Continues after a fault of a file, unless
 /// memory or the output failed. Returns the outcome that ended it, or else the worst.

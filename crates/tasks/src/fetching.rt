@@ -7,11 +7,9 @@ ghost use Rattle.tasks.specs.Fetching.{WritesRecord};
 ghost use Rattle.tasks.specs.Opening.{IsUnopened, OpensFirst, WithTold};
 ghost use Rattle.tasks.specs.Writes.{CountsWrites};
 
-use crate::console::Console;
-use crate::faults::said_outcome;
 use crate::opening::Opener;
-use crate::outcome::Outcome;
 use index_core::{Fetch, IndexFault};
+use outcomes::{Console, Outcome, said_outcome};
 use std::rt::Runtime;
 use warc_core::Output;
 

@@ -3,18 +3,15 @@ ghost use Rattle.std.specs.Prelude.{◌≡◌, true, false, IfOk, MatchResult};
 ghost use Rattle.archives.specs.State.{IsUnread, told_of};
 ghost use Rattle.command_line.specs.Words.{texts};
 ghost use Rattle.tasks.specs.Indexing.{AddsArchive, AddsOne, bytes_of_name, IndexesArchives, WritesIndex};
-ghost use Rattle.tasks.specs.Outcome.{ends_command};
+ghost use Rattle.outcomes.specs.Outcome.{ends_command};
 ghost use Rattle.tasks.specs.Writes.{CountsWrites};
 
 use crate::archive_names::archive_name;
-use crate::console::Console;
 use crate::each::with_each;
-use crate::exit_status::ends_command;
-use crate::faults::said_outcome;
 use crate::opening::Opener;
-use crate::outcome::Outcome;
 use capture_core::Types;
 use index_core::{Archive, Indexer};
+use outcomes::{Console, Outcome, ends_command, said_outcome};
 use std::rt::Runtime;
 use warc_core::Output;
 
@@ -78,7 +75,7 @@ fn add_opened<R: Runtime, A: Archive + Drop>(
 }
 
 /// Writes the index, unless the command has ended.
-#[tactic(auto, unfolding(crate::specs::Outcome::ends_command))]
+#[tactic(auto, unfolding(outcomes::specs::Outcome::ends_command))]
 fn write_index<O: Output>(indexer: &Indexer, added: Outcome, out: &mut O) -> Outcome
     ensures ended { ends_command added ≡ true → (result ≡ added) × (out.new ≡ out.old) }
     ensures written { ends_command added ≡ false →

@@ -3,30 +3,28 @@
 //! The definitions begin in `specs/Performing.antt`: what the program does for each task.
 #![tactic(auto)]
 
-mod advice;
 mod archive_names;
+mod buffered;
 mod checks;
-mod console;
 mod conversing;
 mod each;
-mod exit_status;
-mod faults;
 mod fetching;
-mod file_kind;
+mod flush;
 mod indexing;
 mod merging;
 mod opening;
-mod outcome;
 mod program;
 mod queries;
 mod reports;
 mod scanning;
 mod standard_input;
+mod system;
 
-pub use crate::console::Console;
-pub use crate::exit_status::{status, status_zero_is_done};
-pub use crate::opening::{ArchiveOver, Opener, System, SystemInput};
-pub use crate::outcome::Outcome;
-pub use crate::program::{perform, run_warcdx, run_warcdx_gz};
+pub use crate::buffered::Buffered;
+pub use crate::flush::Flush;
+pub use crate::opening::{ArchiveOver, Opener};
+pub use crate::program::{perform, run_on};
 pub use crate::standard_input::StandardInput;
+pub use crate::system::{System, SystemInput, run_warcdx, run_warcdx_gz};
 pub use command_line::Program;
+pub use outcomes::{Console, Outcome, status, status_zero_is_done};

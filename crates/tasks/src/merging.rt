@@ -5,10 +5,8 @@ ghost use Rattle.tasks.specs.Merging.{MergesIndexes};
 ghost use Rattle.tasks.specs.Opening.{OpensFirst, AreUnopenedIndexes};
 ghost use Rattle.tasks.specs.Writes.{CountsWrites};
 
-use crate::console::Console;
-use crate::faults::answered_outcome;
 use crate::opening::{Opener, open_indexes};
-use crate::outcome::Outcome;
+use outcomes::{Console, Outcome, answered_outcome};
 use query_core::merge;
 use std::rt::Runtime;
 use warc_core::Output;

@@ -1,26 +1,19 @@
 //! The opening of archives and indexes by name.
-ghost use Rattle.std.specs.Prelude.{◌≡◌, ℕ, List, Option, None, ⊤, IfErr, MatchResult, map};
+ghost use Rattle.std.specs.Prelude.{◌≡◌, ℕ, List, Option, MatchResult, map};
 ghost use Rattle.command_line.specs.Words.{texts};
 ghost use Rattle.archives.specs.State.{ToldArchive};
-ghost use Rattle.tasks.specs.Opening.{HasTold, IsPlainUntold, IsUnopened, IsUnopenedIndex, IsUntold};
+ghost use Rattle.tasks.specs.Opening.{IsAny, IsPlain, IsUnopened, IsUnopenedIndex};
 ghost use Rattle.tasks.specs.Opening.{AreUnopenedIndexes, OpensAs};
 
-use crate::advice::{NO_PIPE, unread_advice};
-use crate::console::Console;
-use crate::outcome::Outcome;
-use either::Either;
-use index_core::{AnyArchive, Fetch, IndexFault, PlainArchive, open};
-use query_core::{AnswerFault, FileSource, Source};
+use index_core::{AnyArchive, Fetch, PlainArchive, open};
+use outcomes::Outcome;
+use query_core::{AnswerFault, Source};
 use std::alloc::Global;
-use std::fs::{File, Files};
-use std::io::{self, ErrorKind};
-use std::marker::PhantomData;
-use std::rt::Runtime;
-use warc_core::{FromFile, FromRead, Input, SystemFile};
+use warc_core::Input;
 
 /// An archive over an input of which nothing was read.
 pub trait ArchiveOver<I>: Fetch + Drop {
-    /// How an archive may be of which no bytes are told.
+    /// How an archive over any input may be.
     ghost may_be: { ToldArchive → Type 0 };
 
     /// Creates the archive. If memory or the input fails, its first call says so.
@@ -29,7 +22,7 @@ pub trait ArchiveOver<I>: Fetch + Drop {
 }
 
 impl<I: Input + Drop> ArchiveOver<I> for PlainArchive<I> {
-    ghost may_be = { IsPlainUntold };
+    ghost may_be = { IsPlain };
 
     fn over(alloc: Global, input: I) -> PlainArchive<I> {
         PlainArchive::new(alloc, input)
@@ -37,7 +30,7 @@ impl<I: Input + Drop> ArchiveOver<I> for PlainArchive<I> {
 }
 
 impl<I: Input + Drop> ArchiveOver<I> for AnyArchive<I> {
-    ghost may_be = { IsUntold };
+    ghost may_be = { IsAny };
 
     fn over(alloc: Global, input: I) -> AnyArchive<I> {
         open(alloc, input)
@@ -55,14 +48,14 @@ pub trait Opener {
     /// Standard input.
     type Lines: Input + Drop;
 
-    /// That the archive of a name may be told so: its form, and its bytes if they are told.
+    /// That the archive of a name may be so: its form, and its bytes if they are known.
     ghost tells_archive: { Self → List ℕ → ToldArchive → Type 0 };
 
     /// The bytes of the index of a name, if they are known.
     ghost index_bytes: { Self → List ℕ → Option (List ℕ) };
 
-    /// The bytes of standard input, if they are told.
-    ghost input_bytes: { Self → Option (List ℕ) };
+    /// That standard input may have these bytes, if they are known.
+    ghost tells_input: { Self → Option (List ℕ) → Type 0 };
 
     /// That the archive of a name couldn't be opened.
     ghost archive_failed: { Self → List ℕ → Type 0 };
@@ -85,90 +78,7 @@ pub trait Opener {
 
     /// Returns standard input.
     fn input(&self) -> Self::Lines
-        ensures { HasTold (input_bytes self.now) (Self.Lines.remaining result) };
-}
-
-/// An archive of the system, as it is read: standard input, or a file. The reader of standard input has a large buffer.
-/// It is apart, so that an archive is small where it is moved.
-pub type SystemInput<R> = Either<
-    FromRead<Box<<R as io::Input>::Reader>>,
-    FromFile<SystemFile<<R as Files>::File>>,
->;
-
-/// The files of the system, with archives of this type. The contracts don't know their bytes, nor what becomes of an
-/// opening.
-#[derive(Drop)]
-pub struct System<'a, R, A> {
-    console: &'a Console<'a, R>,
-    archives: PhantomData<A>,
-}
-
-impl<'a, R, A> System<'a, R, A> {
-    /// Creates what opens the files of the system.
-    pub fn new(console: &'a Console<'a, R>) -> System<'a, R, A> {
-        System {
-            console,
-            archives: PhantomData,
-        }
-    }
-}
-
-impl<R: Runtime + AllocGlobal, A: ArchiveOver<SystemInput<R>>> Opener for System<'_, R, A> {
-    type Archive = A;
-
-    type Index = FileSource<SystemFile<<R as Files>::File>>;
-
-    type Lines = FromRead<<R as io::Input>::Reader>;
-
-    ghost tells_archive = { λ _ _. A.may_be };
-
-    ghost index_bytes = { λ _ _. None };
-
-    ghost input_bytes = { λ _. None };
-
-    ghost archive_failed = { λ _ _. ⊤ };
-
-    ghost index_failed = { λ _ _. ⊤ };
-
-    fn open_archive(&self, name: &str) -> Result<Self::Archive, Outcome> {
-        Ok(A::over(self.console.alloc(), open_input(self.console, name)?))
-    }
-
-    fn open_index(&self, name: &str) -> Result<Self::Index, Outcome> {
-        match FileSource::new(SystemFile(open_file(self.console, name)?)) {
-            Ok(source) => Ok(source),
-            Err(_fault) => {
-                let program = self.console.program();
-                let _ = eprintln!(self.console.rt; "{program}: {name}: Read");
-                let advice = unread_advice(self.console.rt, name);
-                let _ = eprintln!(self.console.rt; "  {advice}");
-                Err(Outcome::Answer(AnswerFault::Read(0)))
-            }
-        }
-    }
-
-    fn input(&self) -> Self::Lines {
-        FromRead::new(self.console.rt.reader())
-    }
-}
-
-/// Opens the input of an archive of this name; `-` is standard input.
-fn open_input<R: Runtime + AllocGlobal>(
-    console: &Console<R>,
-    name: &str,
-) -> Result<SystemInput<R>, Outcome>
-    ensures { IfErr result (IsUnopened ⊤) }
-{
-    if name == "-" {
-        return match Box::new(console.alloc(), console.rt.reader()) {
-            Ok(reader) => Ok(Either::Left(FromRead::new(reader))),
-            Err(_) => Err(Outcome::Index(IndexFault::Memory)),
-        };
-    }
-    match FromFile::new(SystemFile(open_file(console, name)?)) {
-        Ok(file) => Ok(Either::Right(file)),
-        Err(_fault) => Err(cannot_open(console, name)),
-    }
+        ensures { tells_input self.now (Self.Lines.remaining result) };
 }
 
 /// Opens the indexes of these names, in their order. Returns the outcome of the first that can't be opened, if there is
@@ -191,40 +101,4 @@ pub fn open_indexes<F: Opener>(
         }
     }
     Ok(indexes)
-}
-
-fn open_file<R: Runtime + AllocGlobal>(
-    console: &Console<R>,
-    name: &str,
-) -> Result<<R as Files>::File, Outcome>
-    ensures { IfErr result (IsUnopened ⊤) }
-{
-    match File::open(console.rt, name) {
-        Ok(file) => Ok(file),
-        Err(error) if error.kind() == ErrorKind::OutOfMemory => {
-            Err(Outcome::Index(IndexFault::Memory))
-        }
-        Err(error) => {
-            let outcome = cannot_open(console, name);
-            say_why(console.rt, name, &error);
-            Err(outcome)
-        }
-    }
-}
-
-/// Reports on standard error why a file can't be opened: the system's reason, or that indexes aren't read from a pipe.
-fn say_why<R: Runtime>(rt: &R, name: &str, error: &io::Error) {
-    let _ = match name {
-        "-" => eprintln!(rt; "  {NO_PIPE}"),
-        _ => eprintln!(rt; "  {error}"),
-    };
-}
-
-/// Reports on standard error that a file can't be opened.
-fn cannot_open<R: Runtime + AllocGlobal>(console: &Console<R>, name: &str) -> Outcome
-    ensures { result ≡ Outcome.CannotOpen }
-{
-    let program = console.program();
-    let _ = eprintln!(console.rt; "{program}: {name}: cannot open");
-    Outcome::CannotOpen
 }

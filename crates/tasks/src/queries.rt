@@ -5,10 +5,8 @@ ghost use Rattle.tasks.specs.Opening.{OpensFirst, AreUnopenedIndexes};
 ghost use Rattle.tasks.specs.Queries.{AnswersPages, AnswersQuery, ReadsFirst, ReadsQuery};
 ghost use Rattle.tasks.specs.Writes.{CountsWrites};
 
-use crate::console::Console;
-use crate::faults::{answered_outcome, say_refusal};
 use crate::opening::{Opener, open_indexes};
-use crate::outcome::Outcome;
+use outcomes::{Console, Outcome, answered_outcome, say_refusal};
 use query_core::{Query, answer, pages};
 use std::rt::Runtime;
 use warc_core::Output;

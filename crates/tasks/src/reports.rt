@@ -5,16 +5,15 @@ ghost use Rattle.devices.specs.Device.{CountsFailure};
 ghost use Rattle.devices.specs.Writing.{WritesText};
 ghost use Rattle.index_core.specs.Counting.{CountsInput};
 ghost use Rattle.command_line.specs.Words.{texts};
-ghost use Rattle.tasks.specs.Outcome.{answer_of};
+ghost use Rattle.outcomes.specs.Outcome.{answer_of};
 ghost use Rattle.tasks.specs.Reports.{ReportsOn, ReportsOnOne, WritesReport, WritesBelow, heading, heading_among};
 ghost use Rattle.tasks.specs.Writes.{CountsWrites};
 
-use crate::console::Console;
 use crate::each::with_each;
 use crate::opening::Opener;
-use crate::outcome::{Outcome, outcome_of, verification_outcome};
 use devices::DeviceFault;
 use index_core::{Archive, IndexFault, list, verify};
+use outcomes::{Console, Outcome, outcome_of, verification_outcome};
 use std::rt::Runtime;
 use warc_core::{Output, put};
 

@@ -10,13 +10,11 @@ ghost use Rattle.tasks.specs.Scanning.{AreOpened, ScansArchives, ScansNamed, Sca
 ghost use Rattle.tasks.specs.Writes.{CountsWrites};
 
 use crate::archive_names::archive_name;
-use crate::console::Console;
-use crate::faults::say_scan_fault;
 use crate::opening::Opener;
-use crate::outcome::Outcome;
 use crate::queries::read_query;
 use capture_core::Types;
 use index_core::{Archive, IndexFault};
+use outcomes::{Console, Outcome, say_scan_fault};
 use scan_core::{Named, ScanFault, scan};
 use std::alloc::{AllocError, Global};
 use std::rt::Runtime;

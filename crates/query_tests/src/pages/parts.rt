@@ -25,6 +25,27 @@ const FORMS: &[(PageForm, &str)] = &[
         "http://x/%20\"é%09 - 200 7\n\nk+1\n",
     ),
     (
+        PageForm::Text(&[Field::Urlkey, Field::Timestamp]),
+        "com,example)/ 20160101000000\n\nk+1\n",
+    ),
+    (
+        PageForm::Text(&[
+            Field::Urlkey,
+            Field::Timestamp,
+            Field::Statuscode,
+            Field::Filename,
+        ]),
+        "com,example)/ 20160101000000 200 a%20b.warc\n\nk+1\n",
+    ),
+    (
+        PageForm::Text(&[Field::Urlkey, Field::Statuscode]),
+        "com,example)/ 200\n\nk+1\n",
+    ),
+    (
+        PageForm::Text(&[Field::Filename, Field::Timestamp, Field::Urlkey]),
+        "a%20b.warc 20160101000000 com,example)/\n\nk+1\n",
+    ),
+    (
         PageForm::Json(FIELDS),
         "[[\"original\",\"mimetype\",\"statuscode\",\"offset\"],\n[\"http://x/ \\\"é\\t\",\"-\",\"200\",\"7\"],\n[],\n[\"k+1\"]]\n",
     ),

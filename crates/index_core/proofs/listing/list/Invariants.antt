@@ -1,7 +1,7 @@
 use Rattle.index_core.proofs.Words.{◌≡◌, ◌≤◌, ◌-◌, ◌^◌}
 use Rattle.std.proofs.Common.{true}
 use Rattle.archives.specs.Packing.{form_of}
-use Rattle.index_core.proofs.ListingLemmas.{listing}
+use Rattle.index_core.specs.Listing.{listing}
 use Rattle.index_core.proofs.ReportLemmas.{Reporting}
 use Rattle.index_core.proofs.listing.list.Given as goal
 

@@ -2,7 +2,7 @@ use Rattle.index_core.proofs.Words.{◌≡◌, ◌≤◌, ◌-◌, ◌^◌}
 use Rattle.std.proofs.Common.{true}
 use Rattle.archives.specs.Packing.{form_of}
 use Rattle.index_core.proofs.ReportLemmas.{Reporting}
-use Rattle.index_core.proofs.VerdictLemmas.{verification}
+use Rattle.index_core.specs.Verifying.{verification}
 use Rattle.index_core.proofs.verifying.verify.Given as goal
 
 abbrev pub invariant-loop-record : goal.invariant-loop-record

@@ -1,12 +1,13 @@
-use Rattle.merge_core.proofs.Words.{[], ℕ, ◌++◌, ◌-◌, ◌^◌, ◌∷◌, ◌≡◌, AllByRecursion, Appends, Appends-none}
-use Rattle.merge_core.proofs.Words.{AppendsPrefix, AreLinesOf, Bool, CursorState, KeepsSources, List, Member}
-use Rattle.merge_core.proofs.Words.{MergeInput, MergeState, Option, OverIndexes, Pair, Reached, ap, append-nil, arith}
+use Rattle.merge_core.proofs.Words.{[], ℕ, ◌++◌, ◌-◌, ◌^◌, ◌∙◌, ◌∷◌, ◌≡◌, AllByRecursion, AllZip, Appends, Appends-none}
+use Rattle.merge_core.proofs.Words.{AppendsPrefix, AreLinesOf, Bool, CursorState, IsIndex, KeepsSources, LINE_LIMIT, List, Member}
+use Rattle.merge_core.proofs.Words.{MergeInput, MergeState, Option, OverIndexes, OverTexts, Pair, Reached, ap, append-nil, arith}
 use Rattle.merge_core.proofs.Words.{cases_Bool, collection, each_weaker, err_from_is_err_and, false, filter}
 use Rattle.merge_core.proofs.Words.{flat_map-append, inl, inputs, inr, length, length-map, lines_text, map, member_pair}
 use Rattle.merge_core.proofs.Words.{min, prefix_longer, prefix_whole, refl, sym, true, true≢false, wrote_nothing, zip}
 use Rattle.merge_core.proofs.TakenLemmas.{IsUpward, none_wait, taken_first, taken_whole, took_of_indexes, took_of_parts}
 use Rattle.merge_core.proofs.SourceLemmas.{all_kept, cut_at_start, gave_once, indexes_read, none_below_empty, parts}
 use Rattle.merge_core.proofs.SourceLemmas.{reached_read, starts_kept, taken_lines}
+use Rattle.merge_core.proofs.CollectedLemmas.{of_lines, one_indexes}
 use Rattle.merge_core.proofs.{Many.each_second, OpenLemmas.begun_of, StateLemmas.cursors_of}
 use Rattle.merge_core.proofs.indexes.merge_indexes.Goals.{After-merge, In_err-merge, In_ok-merge}
 use Rattle.merge_core.proofs.indexes.merge_indexes.Goals as goal
@@ -65,19 +66,17 @@ broke g c =
       | inr p ↦ p
     ]
 
-pub returns-in_err-opened-clause-lines : goal.returns-in_err-opened-clause-lines
-returns-in_err-opened-clause-lines g c =
+pub returns-in_err-opened-clause-merged : goal.returns-in_err-opened-clause-merged
+returns-in_err-opened-clause-merged g c =
     rw (err_from_is_err_and c.from_residual.result c.from_residual.ensures.1).1
-    ([], record { rise = tt; each = tt }, wrote_nothing _ [])
+    (of_lines [] (record { rise = tt; each = tt }) (wrote_nothing _ []) (λ texts indexes known are. wrote_nothing _ _))
 
-pub returns-in_err-merge-clause-part : goal.returns-in_err-merge-clause-part
-returns-in_err-merge-clause-part g c =
-    let at = goal.at.returns-in_err-merge-clause-part g c in
-    front g at.After-merge c.in_err-merge.ensures.ended.0.reached _ _ (broke g at.In_err-merge)
-
-pub returns-in_err-merge-clause-lines : goal.returns-in_err-merge-clause-lines
-returns-in_err-merge-clause-lines g c =
-    let b = c.in_err-merge.ensures.ended.0 in grind (arith, err_from_is_err_and, lines, broke)
+pub returns-in_err-merge-clause-merged : goal.returns-in_err-merge-clause-merged
+returns-in_err-merge-clause-merged g c =
+    let at = goal.at.returns-in_err-merge-clause-merged g c in
+    let reached = c.in_err-merge.ensures.ended.0.reached in let broke = broke g at.In_err-merge in
+    rw (err_from_is_err_and c.from_residual-in_err-merge.result c.from_residual-in_err-merge.ensures.1).1
+    (of_lines _ (lines g at.After-merge reached) broke (front g at.After-merge reached _ _ broke))
 
 pub returns-in_err-merge-clause-bytes : goal.returns-in_err-merge-clause-bytes
 returns-in_err-merge-clause-bytes g c = grind (arith, gave_once)
@@ -93,27 +92,26 @@ returns g c =
     let taken = passed.so_far.taken in let reached = passed.so_far.reached in
     let wrote = wrote g at.In_ok-merge in
     let kept : KeepsSources device c.args.sources.now sources = grind (arith, all_kept) in
+    let whole : OverTexts (map device.text c.args.sources.now) (λ texts.
+    AllZip (IsIndex LINE_LIMIT) texts (parts texts (inputs m)) × (taken ≡ collection (parts texts (inputs m)))) =
+    λ texts known.
+    let there = rw (← opened.sources.0.0) at known in
+    let empty : m.queue ≡ [] = grind (arith, cases_Bool) in
+    let starts = each_second (λ (c : CursorState). c.start ≡ 0) sources m.cursors.items reached.ready.aligned.same
+    (starts_kept device _ _ c.merge.ensures.moved (begun g at.After-merge)) in
+    let none : AllByRecursion (λ (f : MergeInput). f.waits ≡ []) (inputs m) = rw empty (none_wait 0 m.cursors.items) in
+    let took = took_of_parts reached upward (λ m. true) (λ m e. refl) texts there in (
+      indexes_read never (λ key. refl) texts (inputs m) (reached_read reached texts there) (rw cursors_of starts) none,
+      sym (simp filter_every at (taken_whole took empty)),
+    ) in
     record {
       kept = kept;
       fault = grind arith;
-      merged = λ texts known.
-          let lines = parts texts (inputs m) in let there = rw (← opened.sources.0.0) at known in
-          let empty : m.queue ≡ [] = grind (arith, cases_Bool) in
-          let starts = each_second (λ (c : CursorState). c.start ≡ 0) sources m.cursors.items reached.ready.aligned.same
-          (starts_kept device _ _ c.merge.ensures.moved (begun g at.After-merge)) in
-          let none : AllByRecursion (λ (f : MergeInput). f.waits ≡ []) (inputs m) = rw empty (none_wait 0 m.cursors.items) in
-          let took = took_of_parts reached upward (λ m. true) (λ m e. refl) texts there in
-          let all : taken ≡ collection lines = sym (simp filter_every at (taken_whole took empty)) in
-          record {
-            indexes = lines;
-            are = indexes_read never (λ key. refl) texts (inputs m) (reached_read reached texts there)
-                (rw cursors_of starts) none;
-            text = rw (← all) wrote.0;
-            count = rw (← all) wrote.1;
-          };
+      merged = of_lines taken (lines g at.After-merge reached) wrote (λ texts indexes known are.
+          let read = whole texts known in
+          rw (← (read.1 ∙ ap collection (one_indexes texts _ indexes read.0 are))) wrote);
+      indexes = λ texts known. (_, (whole texts known).0);
       bytes = grind (arith, gave_once);
-      part = front g at.After-merge reached _ _ (rw append-nil at (prefix_whole _ _ _ [] wrote.0));
-      lines = (taken, grind (arith, lines), wrote);
       most_lines = λ texts indexes known are most share.
           let few = c.merge.ensures.most_lines texts indexes (rw (← opened.sources.0.0) at known) are most share
           (omega (arith, opened.begun.none_held)) in

@@ -3,7 +3,8 @@ use Rattle.query_core.proofs.Words.{Rises, Some, WrotePages, append-nil, arith, 
 use Rattle.query_core.proofs.Words.{grows_by, grows_part, map, member_place, no_pages, place_cmp, rules, sym, true}
 use Rattle.query_core.proofs.Words.{true≢false, wrote_nothing}
 use Rattle.std.proofs.lemmas.Bool.{true_from_ne_false}
-use Rattle.query_core.proofs.PagesReach.{Writing, all_ended, at_end, broke_front, collection_rises, never_enough}
+use Rattle.query_core.proofs.PagesReach.{Writing, all_ended, at_end, broke_front, never_enough}
+use Rattle.merge_core.proofs.CollectedLemmas.{collection_rises}
 use Rattle.query_core.proofs.PagesReach.{of_none, of_taken, pages_reached, passed, stood_pages}
 use Rattle.query_core.proofs.PagesLemmas.{all_positive, front_more, is_sized}
 use Rattle.query_core.proofs.paging.pages.Given.{Over}

@@ -1,6 +1,6 @@
-use Rattle.query_core.proofs.Words.{◌+◌, ◌-◌, ◌<◌, ◌^◌, ◌≡◌, ◌≤◌, CountsTaken, IsTextReply, KeepsSources, OverIndexes}
+use Rattle.query_core.proofs.Words.{◌+◌, ◌-◌, ◌<◌, ◌^◌, ◌≡◌, ◌≤◌, CountsTaken, IsTextReply, KeepsSources}
 use Rattle.query_core.proofs.Words.{QUERY_LIMIT, map, prepend_known}
-use Rattle.query_core.proofs.ReplyLemmas.{RepliedSoFar, Spent}
+use Rattle.query_core.proofs.ReplyLemmas.{Spent}
 use Rattle.query_core.proofs.serving.serve.Given as goal
 
 abbrev pub invariant-loop-lines : goal.invariant-loop-lines
@@ -14,13 +14,9 @@ invariant-loop-lines g l = record {
       l.lines.taken;
   within : l.lines.taken < 2 ^ 63 - 1;
   fits : l.count ≤ l.lines.taken;
-  any : RepliedSoFar QUERY_LIMIT (IsTextReply (map g.S.Source.text l.fn.sources)) (g.I.Input.remaining l.fn.input)
+  spent : Spent g.S.Source QUERY_LIMIT (IsTextReply (map g.S.Source.text l.fn.sources)) (g.I.Input.remaining l.fn.input)
       (prepend_known l.lines.buffer (g.I.Input.remaining l.input)) l.count (g.O.Output.written l.fn.out)
-      (g.O.Output.written l.out);
-  told : OverIndexes (map g.S.Source.text l.fn.sources) (λ texts indexes.
-      Spent g.S.Source QUERY_LIMIT (g.I.Input.remaining l.fn.input)
-      (prepend_known l.lines.buffer (g.I.Input.remaining l.input)) l.count texts indexes (g.O.Output.written l.fn.out)
-      (g.O.Output.written l.out) l.fn.sources l.sources);
+      (g.O.Output.written l.out) l.fn.sources l.sources;
 }
 
 abbrev pub decreases-loop-lines : goal.decreases-loop-lines

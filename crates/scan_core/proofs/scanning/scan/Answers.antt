@@ -4,12 +4,12 @@ use Rattle.scan_core.specs.Scanning.{IsScanFault, LeavesUnread}
 use Rattle.scan_core.proofs.scanning.scan.Goals as goal
 
 pub returns-clause-scanned : goal.returns-clause-scanned
-returns-clause-scanned g c =
+returns-clause-scanned g c written =
     scanned_whole (grind (arith, length-map)) (rw (← c.deref.ensures.value) at c.in_ok-indexes.ensures.indexes) _
     c.in_ok-write_pages.ensures.pages
 
-pub returns-in_err-write_pages-clause-part : goal.returns-in_err-write_pages-clause-part
-returns-in_err-write_pages-clause-part g c =
+pub returns-in_err-write_pages-clause-scanned : goal.returns-in_err-write_pages-clause-scanned
+returns-in_err-write_pages-clause-scanned g c =
     let r = c.from_residual-in_err-write_pages in
     let p = err_from_is_err_and r.result r.ensures.1 in
     rw (p.1, p.2) (λ late. scanned_part {query = c.in_ok-query.query} (grind (arith, length-map))

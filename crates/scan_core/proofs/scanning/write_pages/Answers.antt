@@ -58,7 +58,7 @@ returns-clause-pages g c = λ members are.
     let same = simp length-map at (ap length texts) in
     let number : length c.deref_mut.result.now ≤ SOURCES_LIMIT = omega arith in
     record {
-      wrote = ok.pages.over _ members known are;
+      wrote = rw (← ok.pages.whole _ members known are) ok.pages.holds;
       fault = pages_fault c.indexes_have_no_line_at_fault.ensures c.pages.result _ _ members c.deref_mut.result.now
           c.pages.new.sources _ _ c.args.sizes.now (length c.deref_mut.result.now) _ known are ok.fault ok.failures
           c.requires.sizes number ok.refused;

@@ -1,6 +1,6 @@
 use Rattle.std.proofs.Common.{refl, rules}
 use Rattle.tasks.specs.Checks.{ChecksOne}
-use Rattle.tasks.specs.Outcome.{ends_command}
+use Rattle.outcomes.specs.Outcome.{ends_command}
 use Rattle.tasks.specs.Writes.{CountsWrites}
 use Rattle.tasks.proofs.EachLemmas.{goes_over-calls}
 use Rattle.tasks.proofs.WriteCounts.{counts_over}

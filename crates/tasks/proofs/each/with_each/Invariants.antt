@@ -1,8 +1,8 @@
 use Rattle.std.proofs.Common.{drop}
 use Rattle.command_line.specs.Words.{texts}
 use Rattle.tasks.specs.Each.{GoesOver, ReturnsWithState}
-use Rattle.tasks.specs.declared.outcome.Outcome.{Outcome}
-use Rattle.tasks.specs.declared.outcome.Outcome.TheVariants.{Done}
+use Rattle.outcomes.specs.declared.outcome.Outcome.{Outcome}
+use Rattle.outcomes.specs.declared.outcome.Outcome.TheVariants.{Done}
 use Rattle.tasks.proofs.each.with_each.Given as goal
 
 -- as the command goes over the files that are left, so it goes over all

@@ -1,6 +1,6 @@
 use Rattle.std.proofs.Common.{ap, refl, rules, sym}
 use Rattle.tasks.specs.Indexing.{AddsOne, bytes_of_name}
-use Rattle.tasks.specs.Outcome.{ends_command}
+use Rattle.outcomes.specs.Outcome.{ends_command}
 use Rattle.tasks.specs.Writes.{CountsWrites}
 use Rattle.tasks.proofs.EachLemmas.{goes_over-calls, match_bool-of}
 use Rattle.tasks.proofs.WriteCounts.{counts_over, index_counts}

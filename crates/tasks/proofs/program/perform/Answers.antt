@@ -6,7 +6,6 @@ use Rattle.tasks.specs.Opening.{AreUnopenedIndexes, OpensFirst}
 use Rattle.tasks.specs.Performing.{Performs}
 use Rattle.tasks.specs.Queries.{AnswersLines}
 use Rattle.tasks.specs.Scanning.{ScansNamed}
-use Rattle.tasks.proofs.UntoldLines.{served_told}
 use Rattle.tasks.proofs.program.perform.Goals as goal
 
 pub returns-in-Scan-clause-performs : goal.returns-in-Scan-clause-performs
@@ -38,8 +37,7 @@ returns-in-Serve-clause-performs g c =
     let result = c.serve_all.result in
     let ends : List (String Global)
     → Type 0 = λ names. OpensFirst (AreUnopenedIndexes (opener.index_failed files) (texts names) result) (new ≡ old)
-    (AnswersLines (map (opener.index_bytes files) (texts names)) (opener.input_bytes files) (g.O.Output.written old)
-    (g.O.Output.written new) (new ≡ old) result) in
+    (AnswersLines (map (opener.index_bytes files) (texts names)) (g.F.Lines.Input.remaining c.input.result)
+    (g.O.Output.written old) (g.O.Output.written new) (new ≡ old) result) in
     rw c.in-Serve.is
-    (subst ends c.deref-in-Serve.ensures.value
-    (served_told _ _ _ _ _ _ _ _ c.input.ensures c.serve_all.ensures.answers))
+    (_, c.input.ensures, subst ends c.deref-in-Serve.ensures.value c.serve_all.ensures.answers)

@@ -1,10 +1,10 @@
 use Rattle.std.proofs.Common.{refl, rules, length, string_bytes, subst, sym}
 use Rattle.std.proofs.lemmas.List.{length-map}
 use Rattle.command_line.specs.Words.{texts}
-use Rattle.tasks.specs.declared.outcome.Outcome.TheVariants.{Done}
+use Rattle.outcomes.specs.declared.outcome.Outcome.TheVariants.{Done}
 use Rattle.tasks.specs.Each.{GoesOver}
 use Rattle.tasks.specs.Reports.{ReportsOnOne}
-use Rattle.tasks.specs.Outcome.{ends_command}
+use Rattle.outcomes.specs.Outcome.{ends_command}
 use Rattle.tasks.specs.Writes.{CountsWrites}
 use Rattle.tasks.proofs.EachLemmas.{goes_over-calls}
 use Rattle.tasks.proofs.WriteCounts.{counts_over}

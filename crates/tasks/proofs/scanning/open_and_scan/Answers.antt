@@ -1,8 +1,7 @@
-use Rattle.std.proofs.Common.{◌∙◌, ap, inl, map, sym}
+use Rattle.std.proofs.Common.{◌∙◌, ap, inl, map}
 use Rattle.archives.specs.State.{told_of}
 use Rattle.tasks.specs.Scanning.{archive_names}
 use Rattle.tasks.proofs.NamedLemmas.{all_unread, opened_told}
-use Rattle.tasks.proofs.UntoldScans.{scans_told}
 use Rattle.tasks.proofs.scanning.open_and_scan.Goals as goal
 
 pub scan_opened-requires : goal.scan_opened-requires
@@ -16,4 +15,4 @@ returns-in-Ok-clause-scans g c =
     let left = ap (map (λ archive. told_of (g.F.Archive.Archive.state archive.archive))) c.deref_mut.ensures.value in
     let told = opened_told g.F.Archive.Archive.state (g.F.Opener.tells_archive c.args.files.now) _
     c.in-Ok.archives.items c.in-Ok.ensures.opened in
-    inl (told.0, told.1, scans_told _ _ _ _ told.2 _ _ _ _ _ (rw (named, left) at c.scan_opened.ensures.scans))
+    inl (_, told, rw (named, left) at c.scan_opened.ensures.scans)

@@ -1,0 +1,252 @@
+//! The second line of a message on standard error: why, and what to do.
+use crate::console::Console;
+use crate::file_kind::{FileKind, file_kind, is_file, is_folder};
+use crate::outcome::Outcome;
+use capture_core::CaptureFault;
+use command_line::Program;
+use index_core::IndexFault;
+use query_core::{AnswerFault, QueryFault};
+use query_text::is_parameter;
+use std::rt::Runtime;
+use warc_core::Cause;
+
+const BAD_LINE: &str = "The line that begins there isn't one of a CDXJ index.";
+
+/// Why an index isn't read from a pipe.
+pub const NO_PIPE: &str =
+    "An index is a file, because it is searched: write what a pipe has to a file first.";
+
+/// Returns the first name in a query text that isn't that of a parameter, if there is one.
+pub fn unknown_parameter(text: &str) -> Option<&str> {
+    text.split('&')
+        .map(parameter_name)
+        .find(|name| is_unknown(name))
+}
+
+/// Returns `true` if a name has no escape, and no byte that a terminal may take for another line.
+pub fn is_plain(name: &str) -> bool {
+    name.bytes().all(|byte| byte.is_ascii_alphanumeric())
+}
+
+/// Returns `true` if what isn't the name of a parameter may be a URL, or the name of a file.
+pub fn is_address(name: &str) -> bool {
+    name.contains('.') || name.contains('/')
+}
+
+fn parameter_name(piece: &str) -> &str {
+    match piece.split_once('=') {
+        Some((name, _value)) => name,
+        None => piece,
+    }
+}
+
+/// Returns `true` for a text that is no parameter's name, and isn't the empty one between two `&`.
+fn is_unknown(name: &str) -> bool {
+    !name.is_empty() && !is_parameter(name)
+}
+
+/// Returns which parameter of a query is refused, and what it takes.
+pub fn query_advice(fault: QueryFault) -> &'static str {
+    match fault {
+        QueryFault::Memory => "There is no memory for the query.",
+        QueryFault::Unknown => {
+            "The parameters are url, key, matchType, from, to, filter, is, isnot, has, hasnot, limit, resumeKey, \
+             showResumeKey, fl, output and collapse. warcdx-gateway has others too."
+        }
+        QueryFault::RepeatedParameter => {
+            "A parameter is given twice. Only filter, is, isnot, has and hasnot may be repeated."
+        }
+        QueryFault::BadMatch => "matchType is exact, prefix, host or domain.",
+        QueryFault::BadStamp => "from and to are 1 to 14 digits, such as 2016 or 20160919172024.",
+        QueryFault::BadFilter => {
+            "A condition is FIELD:TEXT, such as filter=statuscode:200, with a field that fl may have."
+        }
+        QueryFault::NotLiteral => {
+            "filter takes a literal text, without \\ ^ $ . | ? * + ( ) [ ] { }. For a part of a value, write has=FIELD:TEXT."
+        }
+        QueryFault::BadLimit => "limit is a number from 1 to 1000000.",
+        QueryFault::BadResume => "resumeKey is a key that a page has printed, as it was printed.",
+        QueryFault::BadField => {
+            "fl is a list, with ',' between, of urlkey, timestamp, original, mimetype, statuscode, digest, length, offset \
+             and filename."
+        }
+        QueryFault::BadOutput => "output is text, json or cdxj.",
+        QueryFault::BadFlag => "showResumeKey is true or false.",
+        QueryFault::NoUrl => "A query has a url or a key, such as url=example.com.",
+        QueryFault::UrlAndKey => "A query has a url or a key, and not both.",
+        QueryFault::BadUrl => {
+            "url isn't a URL, or not one of the web where matchType is host or domain. A % is written as %25, a & as %26."
+        }
+        QueryFault::QueryTooLong => "A query has at most 65536 bytes.",
+        QueryFault::BadCollapse =>
+            "collapse is urlkey, timestamp, or timestamp:N with N from 1 to 14.",
+    }
+}
+
+/// Returns why an archive of this name is refused, or what it is.
+pub fn archive_advice<R: Runtime>(
+    console: &Console<R>,
+    name: &str,
+    fault: CaptureFault,
+) -> &'static str {
+    match fault {
+        CaptureFault::Archive(fault) => match fault.cause {
+            Cause::Read if is_folder(console.rt, name) => {
+                "It is a folder: warcdx-update indexes the archives of a folder."
+            }
+            cause if is_unpacked(console, name) => member_advice(cause),
+            Cause::Version if fault.offset == 0 => no_archive_advice(file_kind(console.rt, name)),
+            cause => cause_advice(cause),
+        },
+        CaptureFault::KeyTooLong(_offset) => "There is no room for the key of the record's URL.",
+        CaptureFault::LineTooLong(_offset) => {
+            "The line of the record's capture would have more than 16777216 bytes."
+        }
+    }
+}
+
+/// Returns `true` if the program unpacks the archive of this name.
+fn is_unpacked<R: Runtime>(console: &Console<R>, name: &str) -> bool {
+    match console.program {
+        Program::Warcdx => false,
+        Program::WarcdxGz => file_kind(console.rt, name) == FileKind::Gzip,
+    }
+}
+
+/// Returns what a cause of damage means for a member of gzip, or for the record in it.
+fn member_advice(cause: Cause) -> &'static str {
+    match cause {
+        Cause::Version => {
+            "No record begins the member's text: its first line isn't WARC/1.0 or WARC/1.1."
+        }
+        Cause::ShortHead | Cause::ShortBlock | Cause::Closing => {
+            "The member ends within its record. If the record goes on in the next member, pack the file again: \
+             gunzip it, then warcio recompress IN.warc OUT.warc.gz."
+        }
+        cause => cause_advice(cause),
+    }
+}
+
+/// Returns what a file is that doesn't begin with a record, and what reads it.
+fn no_archive_advice(kind: FileKind) -> &'static str {
+    match kind {
+        FileKind::Gzip => "It is compressed by gzip: warcdx-gz indexes .warc.gz files.",
+        FileKind::Zip => {
+            "It is a ZIP file, as a WACZ file is: unpack it, and index the WARC files in it."
+        }
+        FileKind::Zstandard => "It is compressed by zstd: decompress it first.",
+        FileKind::WarcWithLineFeeds => {
+            "Its first line ends with LF alone: a WARC file has CR LF after each line of a header."
+        }
+        FileKind::Arc => "It is an ARC file: convert it to a WARC file first.",
+        FileKind::Cdx => "It is a CDX file: warcdx-cdx converts it to an index.",
+        FileKind::ByteOrderMark => "It begins with a byte order mark: remove its first 3 bytes.",
+        FileKind::Index => "It seems to be an index: warcdx query reads indexes.",
+        FileKind::Markup => "It seems to be an HTML or XML file, and not a WARC file.",
+        FileKind::Warc | FileKind::Other => cause_advice(Cause::Version),
+    }
+}
+
+/// What to do with an archive that was compressed as a whole, or in parts of any size.
+const PACK_AGAIN: &str = "Each record has to be a member of gzip of its own: \
+    warcio recompress IN.warc.gz OUT.warc.gz packs the file so.";
+
+/// Returns what a cause of damage means.
+fn cause_advice(cause: Cause) -> &'static str {
+    match cause {
+        Cause::Memory => "There is no memory for the record.",
+        Cause::Read => "The archive can't be read there.",
+        Cause::Version => "No record begins there: its first line isn't WARC/1.0 or WARC/1.1.",
+        Cause::ShortHead => "The archive ends within a record's header.",
+        Cause::HeadTooLong => "The record's header has more than 1048576 bytes.",
+        Cause::FieldLine => "A line of the record's header is no named field.",
+        Cause::Missing => {
+            "The record has no WARC-Record-ID, Content-Length, WARC-Date or WARC-Type."
+        }
+        Cause::Repeated => {
+            "The record has WARC-Record-ID, Content-Length, WARC-Date or WARC-Type twice."
+        }
+        Cause::BadLength => "The record's Content-Length isn't a number of bytes below 2^63.",
+        Cause::BadDate =>
+            "The record's WARC-Date isn't a time in UTC, such as 2016-09-19T17:20:24Z.",
+        Cause::ShortBlock => "The archive ends within the record's block.",
+        Cause::Closing => "The record doesn't end with two empty lines.",
+        Cause::TooFar => "The record would end at 2^63 bytes or more.",
+        Cause::NoMember => "No member of gzip begins there: its first bytes aren't 1F 8B.",
+        Cause::BadMember => "The member of gzip there is damaged, or was not written by gzip.",
+        Cause::CutMember => "The archive ends within a member of gzip.",
+        Cause::SeveralRecords => PACK_AGAIN,
+    }
+}
+
+/// Returns why a call on the archive of this name failed, unless memory or the output did.
+pub fn index_advice<R: Runtime>(
+    console: &Console<R>,
+    name: &str,
+    fault: IndexFault,
+) -> Option<&'static str> {
+    match fault {
+        IndexFault::Capture(fault) => Some(archive_advice(console, name, fault)),
+        IndexFault::BadName => Some("The name of an archive's file has 1 to 255 bytes."),
+        IndexFault::DuplicateName => Some(
+            "Another archive has this file name: rename one of them.",
+        ),
+        IndexFault::NoRecord => Some("No record begins at this offset, or it has another length."),
+        IndexFault::Memory | IndexFault::Write => None,
+    }
+}
+
+/// Returns why a call on the index of this name failed, and what to do.
+pub fn answer_advice<R: Runtime>(rt: &R, name: &str, fault: AnswerFault) -> Option<&'static str> {
+    match fault {
+        AnswerFault::Read(_source) => Some(unread_advice(rt, name)),
+        AnswerFault::BadLine(_source, 0) => Some(no_index_advice(file_kind(rt, name))),
+        AnswerFault::BadLine(_source, _offset) => Some(BAD_LINE),
+        AnswerFault::OutOfOrder(_source, _offset) => Some(order_advice(file_kind(rt, name))),
+        _ => None,
+    }
+}
+
+/// Returns what a file is that doesn't begin with a line of an index, and what to do.
+fn no_index_advice(kind: FileKind) -> &'static str {
+    match kind {
+        FileKind::Gzip => "It is compressed by gzip: decompress it first.",
+        FileKind::Zstandard => "It is compressed by zstd: decompress it first.",
+        FileKind::Warc => "It is a WARC file: warcdx index makes an index of it.",
+        FileKind::Cdx => "It is a CDX file: warcdx-cdx converts it to an index.",
+        FileKind::Markup => "It seems to be an HTML or XML file, and not an index.",
+        _ => BAD_LINE,
+    }
+}
+
+/// Returns why an index isn't in order, and what to do.
+fn order_advice(kind: FileKind) -> &'static str {
+    match kind {
+        FileKind::ByteOrderMark => {
+            "The index begins with a byte order mark: remove its first 3 bytes."
+        }
+        _ => "The index isn't in order: LC_ALL=C sort puts its lines in order.",
+    }
+}
+
+/// Returns what to do about what ended a command, if its message doesn't say.
+pub fn end_advice(outcome: Outcome) -> Option<&'static str> {
+    match outcome {
+        Outcome::Answer(AnswerFault::TooManySources) => {
+            Some("At most 1024 files are taken: merge the indexes of some of them first.")
+        }
+        Outcome::Answer(AnswerFault::Input) => Some("Standard input can't be read."),
+        _ => None,
+    }
+}
+
+/// Returns why the index of this name can't be read.
+pub fn unread_advice<R: Runtime>(rt: &R, name: &str) -> &'static str {
+    if is_folder(rt, name) {
+        "It is a folder."
+    } else if is_file(rt, name) {
+        "The file is shorter than it was, or can't be read."
+    } else {
+        NO_PIPE
+    }
+}

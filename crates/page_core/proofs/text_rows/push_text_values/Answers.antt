@@ -1,9 +1,0 @@
-use Rattle.std.proofs.Common.{arith}
-use Rattle.std.proofs.lemmas.Grind.{common_steps}
-use Rattle.page_core.proofs.text_rows.push_text_values.Goals as goal
-
-pub loop-field-preserved : goal.loop-field-preserved
-loop-field-preserved c = grind (arith, common_steps)
-
-pub returns-after-loop-field : goal.returns-after-loop-field
-returns-after-loop-field c = grind (arith, common_steps)

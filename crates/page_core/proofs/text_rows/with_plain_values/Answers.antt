@@ -1,9 +1,0 @@
-use Rattle.std.proofs.Common.{arith}
-use Rattle.std.proofs.lemmas.Grind.{common_steps}
-use Rattle.page_core.proofs.text_rows.with_plain_values.Goals as goal
-
-pub loop-field-preserved : goal.loop-field-preserved
-loop-field-preserved c = grind (arith, common_steps)
-
-pub returns : goal.returns
-returns c = grind (arith, common_steps)

@@ -1,5 +1,0 @@
-use Rattle.tasks.proofs.StatusLemmas.{zero_is_done}
-use Rattle.tasks.proofs.exit_status.status_zero_is_done.Goals as goal
-
-pub returns : goal.returns
-returns c = zero_is_done
