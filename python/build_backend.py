@@ -41,6 +41,15 @@ Classifier: Typing :: Typed
 Requires-Python: >=3.9
 Description-Content-Type: text/markdown
 
+`warcdx` queries the indexes of web archives, and reads the records of WARC files. It needs Python 3.9
+or later, and the programs `warcdx` and `warcdx-gz`, which a wheel for Linux on x86-64 has. Its
+commands are `warcdx-cdx`, `warcdx-fetch`, `warcdx-update` and `warcdx-verify`.
+
+    from warcdx import Index
+    for capture in Index("all.cdxj").captures(url="*.example.com", filter="statuscode:200"):
+        print(capture.timestamp, capture.original)
+
+`help(warcdx)` shows all calls, and each command prints its help with `--help`.
 """
 _SETTINGS = Optional[dict[str, object]]
 _FIRST_LINE = re.compile(rb"#!.*")
@@ -67,7 +76,7 @@ def build_editable(folder: str, config_settings: _SETTINGS = None, metadata_dire
 
 def build_sdist(folder: str, config_settings: _SETTINGS = None) -> str:
     """Writes the source archive, and returns its name."""
-    names = ("LICENSE", "README.md", "VERSION", "build_backend.py", "pyproject.toml")
+    names = ("LICENSE", "VERSION", "build_backend.py", "pyproject.toml")
     files = [File("PKG-INFO", metadata()), *modules(), *(File(name, (HERE / name).read_bytes()) for name in names)]
     files += [File(f"bin/{path.name}", path.read_bytes(), 0o755) for path in script_paths()]
     root = f"warcdx-{VERSION}"
@@ -106,7 +115,7 @@ def scripts() -> Iterator[File]:
 
 
 def metadata() -> bytes:
-    return METADATA.encode() + (HERE / "README.md").read_bytes()
+    return METADATA.encode()
 
 
 def write_wheel(folder: str, tag: str, files: list[File]) -> str:

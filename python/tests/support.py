@@ -7,10 +7,12 @@ import os
 import pathlib
 import signal
 import subprocess
+import sys
 import tempfile
 import time
 import unittest
 from collections.abc import Callable
+from resource import RLIMIT_FSIZE, setrlimit
 from typing import Any
 
 from warcdx import Index
@@ -21,11 +23,7 @@ PROGRAM = os.environ.get("WARCDX", "warcdx")
 SAMPLES = pathlib.Path(__file__).resolve().parents[2] / "samples"
 WAIT = 30  # seconds for what takes a few milliseconds
 # The signals that end a command, but for those that it ignores since these tests do, as below nohup.
-ENDING = tuple(
-    number
-    for number in (signal.SIGINT, signal.SIGTERM, signal.SIGHUP)
-    if signal.getsignal(number) is not signal.SIG_IGN
-)
+ENDING = tuple(number for number in (signal.SIGINT, signal.SIGTERM, signal.SIGHUP) if signal.getsignal(number) is not signal.SIG_IGN)
 ALL = "key=&matchType=prefix"
 LINE = (
     'com,example)/%s 20160101000000 {"url": "http://example.com/%s", "mime": "text/html", "status": "200", '
@@ -70,6 +68,19 @@ class Case(unittest.TestCase):
         path = self.put(f"#!/bin/sh\n{text}\n", "program")
         path.chmod(0o755)
         return str(path)
+
+    def expect_a_full_disk_is_said(self, command: pathlib.Path, said: str, *calls: tuple[str, ...]) -> None:
+        """Calls a command that can write 1,000 bytes of a file. What it says is this expression."""
+        for arguments in calls:
+            for environment in ({}, {"PYTHONUNBUFFERED": "1"}):
+                with open(self.folder / "output", "wb") as output:
+                    done = subprocess.run(
+                        (sys.executable, command, "--warcdx", os.path.abspath(PROGRAM), *arguments), cwd=self.folder,
+                        stdout=output, stderr=subprocess.PIPE, text=True, env={**os.environ, **environment},
+                        preexec_fn=lambda: setrlimit(RLIMIT_FSIZE, (1000, 1000)),
+                    )  # fmt: skip
+                self.assertEqual(3, done.returncode, (arguments, done.stderr))
+                self.assertRegex(done.stderr, rf"\A{said}\Z")
 
     def open(self, *paths: pathlib.Path, **arguments: Any) -> Index:
         index = Index(paths, **{"program": PROGRAM, **arguments})

@@ -84,7 +84,16 @@ class Records(Case):
         ):
             date = Record((("WARC-Date", text),), b"").date
             self.assertEqual(wanted, date and date.isoformat())
-        for text in ("", "2016", "2016-02-30T00:00:00Z", "2016-09-19T17:20:24", "2016-09-19T17:20:24.Z", "20160919172024", "2016-09-19T25:00:00Z", "٢٠١٦-09-19T17:20:24Z"):
+        for text in (
+            "",
+            "2016",
+            "2016-02-30T00:00:00Z",
+            "2016-09-19T17:20:24",
+            "2016-09-19T17:20:24.Z",
+            "20160919172024",
+            "2016-09-19T25:00:00Z",
+            "٢٠١٦-09-19T17:20:24Z",
+        ):
             self.assertIsNone(Record((("WARC-Date", text),), b"").date, text)
 
     def test_a_record_of_http_has_its_head(self) -> None:

@@ -52,7 +52,15 @@ class Moments(unittest.TestCase):
 
 class Parameters(Case):
     def test_a_url_and_a_query_text_are_told_apart(self) -> None:
-        for url in ("example.com/a*", "*.example.com", "http://example.com/?a=b&url=c", "example.com?a=b", "localhost:80/=", "xn--a.org/&=", "a"):
+        for url in (
+            "example.com/a*",
+            "*.example.com",
+            "http://example.com/?a=b&url=c",
+            "example.com?a=b",
+            "localhost:80/=",
+            "xn--a.org/&=",
+            "a",
+        ):
             self.assertTrue(asked(url).startswith("url="), url)
         for text in ("url=a", "url=example.com/?a=b", "key=", "&to=5", "=", "from=2016&url=a", "x=1", "%75rl=a", "no_name=5", "url&key"):
             self.assertEqual(text.lstrip("&"), asked(text))

@@ -14,7 +14,8 @@ from typing import NamedTuple, Optional
 from warcdx import Record, Unreadable, payload
 from warcdx.codings import Decoder, Limits, decoded
 from warcdx.http_messages import Message
-from warcdx.record_digests import RecordCheck
+from warcdx.record import Head
+from warcdx.record_digests import BlockCheck
 
 HAS_BROTLI = importlib.util.find_spec("brotli") is not None
 TEXT = b"<p>one</p>\n"
@@ -113,7 +114,12 @@ SHAPES += [
     *(
         Shape(CHUNKED, plain, plain, ("chunked",))
         for plain in (
-            b"3\r\nabcd\r\n0\r\n\r\n", b"3\r\nabc0\r\n\r\n", b"1\n23\n4\n", b"12\r\n" + TEXT * 9, b"a\nb\nc\n" * 9, b"3f00\n" + NOISE * 6,
+            b"3\r\nabcd\r\n0\r\n\r\n",
+            b"3\r\nabc0\r\n\r\n",
+            b"1\n23\n4\n",
+            b"12\r\n" + TEXT * 9,
+            b"a\nb\nc\n" * 9,
+            b"3f00\n" + NOISE * 6,
         )
     ),
     Shape(CHUNKED, b"ffff\r\n" + NOISE * 2, None),
@@ -256,11 +262,11 @@ class Bodies(unittest.TestCase):
             if shape.wanted is None or "Content" in shape.fields:
                 continue
             for body in (shape.stored, shape.wanted):
-                text = record_of(shape.block, f"WARC-Payload-Digest: sha1:{hashlib.sha1(body).hexdigest()}")
-                for size in (1, 7, len(text)):
-                    check = RecordCheck()
-                    for at in range(0, len(text), size):
-                        check.add(memoryview(text)[at : at + size])
+                fields = (("Content-Type", "application/http"), ("WARC-Payload-Digest", f"sha1:{hashlib.sha1(body).hexdigest()}"))
+                for size in (1, 7, len(shape.block)):
+                    check = BlockCheck(Head(fields), len(shape.block))
+                    for piece in cut(shape.block, *range(0, len(shape.block), size)):
+                        check.add(piece)
                     self.assertEqual("same", check.verdicts().payload.value, (shape, size))
 
     def test_the_reason_is_the_same_for_all_pieces(self) -> None:

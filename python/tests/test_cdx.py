@@ -4,7 +4,6 @@ import json
 import os
 import pathlib
 import random
-import resource
 import signal
 import subprocess
 import sys
@@ -206,16 +205,7 @@ class Both(Cdx):
     def test_a_full_disk_is_said(self) -> None:
         self.put_bytes(lines(1000).encode(), "index")
         self.put_bytes(ROW * 1000, "cdx")
-        for arguments in (("to", "index"), ("from", "cdx"), ("--help",)):
-            for environment in ({}, {"PYTHONUNBUFFERED": "1"}):
-                with open(self.folder / "output", "wb") as output:
-                    done = subprocess.run(
-                        (sys.executable, COMMAND, "--warcdx", os.path.abspath(PROGRAM), *arguments), cwd=self.folder,
-                        stdout=output, stderr=subprocess.PIPE, text=True, env={**os.environ, **environment},
-                        preexec_fn=lambda: resource.setrlimit(resource.RLIMIT_FSIZE, (1000, 1000)),
-                    )  # fmt: skip
-                self.assertEqual(3, done.returncode, (arguments, done.stderr))
-                self.assertRegex(done.stderr, r"\Awarcdx-cdx: (Write: )?File too large\n\Z")
+        self.expect_a_full_disk_is_said(COMMAND, r"warcdx-cdx: (Write: )?File too large\n", ("to", "index"), ("from", "cdx"), ("--help",))
 
     def test_a_signal_ends_it_without_a_word_and_leaves_nothing(self) -> None:
         temporary = self.folder / "temporary"

@@ -50,6 +50,26 @@ class Collections(Case):
         plain_records, packed_records = (sorted(records, key=lambda each: (each.fields, each.block)) for records in found)
         self.assertEqual(plain_records, packed_records)
 
+    def test_links_lead_where_they_may(self) -> None:
+        for name in ("archives", "archives/below", "disk", "other"):
+            (self.folder / name).mkdir()
+            (self.folder / name / "a.warc").write_bytes(resource(b"abc"))
+        root = self.folder / "archives"
+        for name, to in (("in.warc", root / "below"), ("out.warc", self.folder / "disk")):
+            (root / name).symlink_to(to / "a.warc")
+        for links, names in (
+            (None, {"a.warc", "below/a.warc", "in.warc", "out.warc"}),
+            ([], {"a.warc", "below/a.warc", "in.warc"}),
+            ([self.folder / "other"], {"a.warc", "below/a.warc", "in.warc"}),
+            ([self.folder / "other", self.folder / "disk"], {"a.warc", "below/a.warc", "in.warc", "out.warc"}),
+        ):
+            with Collection(self.put(""), root, links=links, program=PROGRAM) as collection:
+                for name in ("a.warc", "below/a.warc", "in.warc", "out.warc"):
+                    if name in names:
+                        self.assertEqual(b"abc", collection.record(self.capture(0, "-", name)).block)
+                    else:
+                        self.raises(NoArchive, collection.record, self.capture(0, "-", name))
+
     def test_only_the_record_is_read(self) -> None:
         first, record = resource(bytes(1_000_000)), resource(b"abc")
         (self.folder / "a.warc").write_bytes(bytes(len(first)) + record)  # what precedes it is no record

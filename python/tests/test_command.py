@@ -115,7 +115,7 @@ class ByteCode(Case):
             for cut in (0, 10, 100):
                 done = subprocess.run((path, "--version"), env=environment, capture_output=True, timeout=WAIT)
                 self.assertEqual((0, b""), (done.returncode, done.stderr), path)
-                for name in ("command", "program", f"{path.name[7:]}_command"):
+                for name in ("warcdx_start", "command", "program", f"{path.name[7:]}_command"):
                     (code,) = self.folder.rglob(f"{name}.*.pyc")
                     os.truncate(code, cut and code.stat().st_size - cut)
             done = subprocess.run((path, "--version"), env=environment, capture_output=True, timeout=WAIT)

@@ -59,8 +59,8 @@ def member(text: bytes, strategy: int = zlib.Z_DEFAULT_STRATEGY, level: int = 9)
     """Returns a member with a header of no fields."""
     deflater = zlib.compressobj(level, zlib.DEFLATED, -15, 9, strategy)
     packed = deflater.compress(text) + deflater.flush()
-    return bytes.fromhex("1f8b0800000000000203") + packed + b"".join(
-        number.to_bytes(4, "little") for number in (zlib.crc32(text), len(text))
+    return (
+        bytes.fromhex("1f8b0800000000000203") + packed + b"".join(number.to_bytes(4, "little") for number in (zlib.crc32(text), len(text)))
     )
 
 
@@ -358,16 +358,15 @@ class Programs(Case):
         plain, beside = self.program("one/warcdx", "warcdx 0.1.0: x"), self.program("one/warcdx-gz", "warcdx-gz 0.1.0: x")
         named = ("--warcdx", str(plain))
         for words, wanted in (
-            (named, (str(plain), str(beside))),
-            ((*named, "--warcdx-gz", "other"), (str(plain), "other")),
-            ((*named, "--warcdx-gz", "a/other"), (str(plain), os.path.abspath("a/other"))),
-            ((*named, "--scheduler", "x"), (str(plain), str(beside))),
-            (("--scheduler", "x"), ("warcdx", "warcdx-gz")),
-            (("--warcdx", "warcdx-gz", "--jobs", "1"), (str(beside), str(beside))),
+            (named, str(beside)),
+            ((*named, "--scheduler", "x"), str(beside)),
+            (("--scheduler", "x"), "warcdx-gz"),
+            (("--jobs", "1"), str(beside)),
+            (("--warcdx", "warcdx-gz"), str(beside)),
         ):
             with unittest.mock.patch.dict(os.environ, PATH=str(plain.parent)):
-                found = update_command.programs_of(update_command.read_arguments([*words, "folder", "index"]))
-            self.assertEqual([(each,) for each in wanted], list(found), words)
+                found = update_command.program_of(update_command.read_arguments([*words, "folder", "index"]))
+            self.assertEqual(wanted, found, words)
 
     def test_a_plain_archive_needs_it_not(self) -> None:
         plain = self.program("one/warcdx", "warcdx 0.1.0: x")

@@ -89,11 +89,7 @@ class Fetching(Case):
                 open_archive(path, program=PROGRAM).index(index)
 
     def fetch(
-        self,
-        *words: str,
-        index: str = "a.cdxj",
-        environment: Optional[dict[str, str]] = None,
-        before: Optional[Callable[[], None]] = None,
+        self, *words: str, index: str = "a.cdxj", environment: Optional[dict[str, str]] = None, before: Optional[Callable[[], None]] = None
     ) -> tuple[int, bytes, str]:
         options = ["--index", index] if index else []
         done = subprocess.run(
@@ -184,10 +180,7 @@ class Fetching(Case):
         self.assertEqual(1, status)
         self.assertEqual("warcdx-fetch: 20190101000000 http://example.com/lost: it is a revisit, and no index has its original\n", error)
         names = [line.split(b" ")[0].decode() for line in output.splitlines()]
-        self.assertEqual(
-            ["20160919172024-example.com.html", "20180102030405-example.com.html", "20190101000000-example.com_again"],
-            names,
-        )
+        self.assertEqual(["20160919172024-example.com.html", "20180102030405-example.com.html", "20190101000000-example.com_again"], names)
         self.assertEqual([b"old", b"new!\n", b"old"], [(self.folder / "all" / name).read_bytes() for name in names])
         self.assertEqual(sorted(names), sorted(os.listdir(self.folder / "all")))
         self.assertEqual(3, self.fetch("--all", "-o", "all", "example.com/*")[0])

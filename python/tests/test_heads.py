@@ -9,9 +9,7 @@ import unittest.mock
 import zlib
 
 from warcdx import Archive, Capture, Collection, CompressedArchive, Fault, NoArchive, faults
-from warcdx.http_messages import unfolded
-from warcdx.record import HEAD_LIMIT, Head, fields_named
-from warcdx.record_digests import _READ, RecordCheck
+from warcdx.record import HEAD_LIMIT
 
 from .support import PROGRAM, Case, packed, resource
 
@@ -55,7 +53,11 @@ class Heads(Case):
 
     def test_heads_up_to_the_limit_of_the_program(self) -> None:
         for head in (3_000, 50_000, 262_143, 262_144, 262_145, HEAD_LIMIT - 1, HEAD_LIMIT):
-            for block, length in ((5, b"Content-Length: %d"), (3 << 20, b"content-LENGTH:\r\n  %d"), (5 << 20, b"Content-Length: %d\r\nY:")):
+            for block, length in (
+                (5, b"Content-Length: %d"),
+                (3 << 20, b"content-LENGTH:\r\n  %d"),
+                (5 << 20, b"Content-Length: %d\r\nY:"),
+            ):
                 for noise in (NOISE, b"a" * HEAD_LIMIT):
                     text = record(head, block, length, noise)
                     done = subprocess.run((PROGRAM, "list", "-"), input=text, stdout=subprocess.PIPE, check=True)
@@ -80,37 +82,6 @@ class Heads(Case):
             (member[:-8] + bytes(8), "BadMember"),
         ):
             self.assertEqual(([(0, len(first))], [0], f"{name} {len(first)}"), self.listed(first, damaged))
-
-
-class Fields(unittest.TestCase):
-    def test_chosen_fields_are_those_of_the_head(self) -> None:
-        choice = random.Random(5)
-        parts = (b"Content-Type", b"content-TYPE", b"WARC-Type", b"warc-block-digest", b"X", b":", b": a", b" ", b"\t", b"\r\n", b"\r\n ", b"b", b"\xff")
-        for _ in range(20_000):
-            head = b"WARC/1.0\r\n" + b"".join(choice.choice(parts) for _ in range(choice.randrange(20)))
-            for name in ("Content-Type", "WARC-Type", "WARC-Block-Digest"):
-                chosen = Head(tuple(fields_named(head, _READ)))
-                lines = b"\r\n" + head.partition(b"\r\n")[2]
-                if lines.startswith((b"\r\n ", b"\r\n\t")):
-                    continue  # which continues the version line
-                self.assertEqual(with_colons(head).field(name), chosen.field(name), head)
-
-    def test_a_head_of_many_fields_is_not_read_whole_to_check_digests(self) -> None:
-        head = b"WARC/1.0\r\nwarc-type: resource\r\ncontent-length: 5\r\n" + b"a:\r\n" * 170_000 + b"\r\n"
-        check = RecordCheck()
-        with unittest.mock.patch.object(Head, "fields_of", side_effect=AssertionError):
-            check.add(memoryview(head + b"block\r\n\r\n"))
-        self.assertTrue(check.is_whole)
-
-
-def with_colons(head: bytes) -> Head:
-    """Returns a head of its lines that have a colon."""
-    unfolded = Head.fields_of(head)
-    return Head(tuple(field for field, line in zip(unfolded, unfolded_lines(head)) if ":" in line))
-
-
-def unfolded_lines(head: bytes) -> "list[str]":
-    return unfolded(head.decode(errors="surrogateescape").split("\r\n"))[1:]
 
 
 class Causes(Case):

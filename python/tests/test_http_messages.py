@@ -39,7 +39,17 @@ class Heads(unittest.TestCase):
                 self.assertEqual((b"\r\nbody", ()), read(block, iter([block])))
 
     def test_a_block_without_a_head_is_a_body(self) -> None:
-        for block in (b"", b"\r\n\r\n", TEXT, b"<html>\n\n<p>text", b"\r\n<p>", b"a: b\r\n\r\nc", b"http://a/\n\n", b"\0" * 9, b"x" * 2_000_000):
+        for block in (
+            b"",
+            b"\r\n\r\n",
+            TEXT,
+            b"<html>\n\n<p>text",
+            b"\r\n<p>",
+            b"a: b\r\n\r\nc",
+            b"http://a/\n\n",
+            b"\0" * 9,
+            b"x" * 2_000_000,
+        ):
             self.assertIsNone(self.http(block))
             self.assertEqual((block, ()), read(block, iter([block])))
             self.assertEqual((block, ()), read(block, cut(block, *range(0, len(block), 65_536))))

@@ -39,9 +39,7 @@ UNESCAPED = '" \\ / \b \f \n \r \t \0 \x1f \x7f \x85 \u2028 é 😀'
 class Queries(Case):
     def test_a_capture_has_the_values_of_its_line(self) -> None:
         index = self.open(self.put(LINE % ("a", "a", 7, 5)))
-        wanted = Capture(
-            "com,example)/a", "20160101000000", "http://example.com/a", "text/html", "200", "-", 7, 5, "a.warc"
-        )
+        wanted = Capture("com,example)/a", "20160101000000", "http://example.com/a", "text/html", "200", "-", 7, 5, "a.warc")
         self.assertEqual([wanted], list(index.captures(url="example.com/a")))
         self.assertEqual([["a.warc", "5"]], list(index.rows(["filename", "offset"], "url=example.com/a")))
 

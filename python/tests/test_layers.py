@@ -1,12 +1,18 @@
-"""The layers of the package, which docs/ARCHITECTURE.md has in a table, and the imports of its modules."""
+"""The layers of the package, which docs/developers/ARCHITECTURE.md has in a table, and the imports of its modules."""
 import ast
+import importlib
 import pathlib
+import pydoc
 import re
+import subprocess
+import sys
 import unittest
 from collections.abc import Iterator
 
+import warcdx
+
 PACKAGE = pathlib.Path(__file__).resolve().parents[1] / "warcdx"
-PAGE = PACKAGE.parents[1] / "docs/ARCHITECTURE.md"
+PAGE = PACKAGE.parents[1] / "docs/developers/ARCHITECTURE.md"
 MODULES = {path.stem for path in PACKAGE.glob("*.py")}
 _ROW = re.compile(r"\| ([a-z ]+) \| [^|]+ \| ((?:`[a-z0-9_]+`(?:, )?)+) \|")
 
@@ -76,7 +82,10 @@ class Layers(unittest.TestCase):
             ({"d": set()}, ["d isn't in the table"]),
             ({"a": {"c"}}, ["a of errors imports c of records", "a cycle: a -> c -> a", "a cycle: a -> c -> b -> a"]),
             ({"a": {"b"}}, ["a cycle: a -> b -> a"]),
-            ({"c": {"x_command"}}, ["c imports the command x_command", "c of records imports x_command of commands", "a cycle: c -> x_command -> c"]),
+            (
+                {"c": {"x_command"}},
+                ["c imports the command x_command", "c of records imports x_command of commands", "a cycle: c -> x_command -> c"],
+            ),
             ({"y_command": {"x_command"}}, ["y_command imports the command x_command"]),
         ):
             self.assertEqual(sorted(wanted), sorted(misplaced({**good, **changes}, layers)), changes)
@@ -84,9 +93,42 @@ class Layers(unittest.TestCase):
 
     def test_imports_of_all_forms_are_found(self) -> None:
         text = "import os, warcdx.index\nfrom . import __version__, faults\nfrom .record import Head\nfrom warcdx import Index\n"
-        text += "def f():\n    from .archive import Archive\n    from warcdx.query import Query\n    from os import path\n    import warcdx\n"
+        text += (
+            "def f():\n    from .archive import Archive\n    from warcdx.query import Query\n    from os import path\n    import warcdx\n"
+        )
         wanted = {"index", "__init__", "faults", "record", "archive", "query"}
         self.assertEqual(wanted, set(imports_of(text)))
+
+
+class Start(unittest.TestCase):
+    """What is loaded when the package is imported, and what it gives all the same."""
+
+    def printed(self, text: str) -> list[str]:
+        done = subprocess.run((sys.executable, "-S", "-c", text), cwd=PACKAGE.parent, stdout=subprocess.PIPE, check=True, text=True)
+        return done.stdout.splitlines()
+
+    def test_a_module_is_loaded_when_something_of_it_is_used(self) -> None:
+        loaded = "import sys, warcdx\nprint(*sorted(name for name in sys.modules if name.startswith('warcdx')))\n"
+        self.assertEqual(["warcdx"], self.printed(loaded))
+        self.assertEqual(["warcdx warcdx.errors"], self.printed("from warcdx import Error\n" + loaded))
+
+    def test_the_command_of_every_night_loads_nothing_that_reads_records(self) -> None:
+        text = "import sys, warcdx.update_command\nprint(*sys.modules.keys() & {'warcdx.record', 'warcdx.index', 'dataclasses', 'inspect', 'pathlib'})\n"
+        self.assertEqual([""], self.printed(text))
+
+    def test_type_checkers_and_readers_find_what_the_package_gives(self) -> None:
+        nodes = ast.walk(ast.parse((PACKAGE / "__init__.py").read_text()))
+        read = [(node.module, alias.name) for node in nodes if isinstance(node, ast.ImportFrom) and node.level for alias in node.names]
+        self.assertEqual(sorted(warcdx.__all__), sorted(name for _, name in read))
+        self.assertLessEqual(set(warcdx.__all__), set(dir(warcdx)))
+        self.assertIn("class Index(", pydoc.plain(pydoc.render_doc(warcdx)))
+        for module, name in read:
+            found = importlib.import_module(f"warcdx.{module or name}")
+            self.assertIs(getattr(found, name) if module else found, getattr(warcdx, name))
+
+    def test_a_name_that_is_not_there_is_an_error_of_an_attribute(self) -> None:
+        text = "import warcdx\ntry:\n    warcdx.Indx\nexcept AttributeError as error:\n    print(error)\n"
+        self.assertEqual(["module 'warcdx' has no attribute 'Indx'"], self.printed(text))
 
 
 if __name__ == "__main__":

@@ -69,12 +69,20 @@ SHAPES = (
     *(Shape(codings_of, b"HTTP/1.1 200\r\n", each) for each in CODINGS),
     *(Shape(codings_of, b"HTTP/1.1", each, b" 200") for each in (b" ", b" 2", b"1", b"\t2000", b"/")),
     *(Shape(codings_of, b"HTTP/1.1 200\r\nTransfer-Encoding: ", each) for each in (b"chunked,", b"gzip ,", b";", b"a;", b" ,")),
-    *(Shape(head_of, before, each, b"x") for before in (b"", b"HTTP/1.1 200\r\n") for each in (b"\r\n", b"\n", b"\r", b"a", b" ", b" HTTP/", b"\r\na", b"HTTP ", b"ICY ")),
+    *(
+        Shape(head_of, before, each, b"x")
+        for before in (b"", b"HTTP/1.1 200\r\n")
+        for each in (b"\r\n", b"\n", b"\r", b"a", b" ", b" HTTP/", b"\r\na", b"HTTP ", b"ICY ")
+    ),
     *(Shape(CHUNKED, b"", each) for each in (b" ", b"1", b"1 ", b"1;", b"1\r", b"1\r\na\r\n", b"1;;\r\na\r\n", b"0")),
     *(Shape(CHUNKED, b"1 ", each, b"x") for each in (b" ", b";", b"\r")),
     *(Shape(CHUNKED, b"1\r\na", each) for each in (b"\r\n", b"\n", b"\r", b"1", b" ", b"\r\n1", b"\r\n1;")),
     Shape(GZIP, b"", bytes.fromhex("1f8b08000000000000030300000000000000000000")[:20]),
-    *(Shape(read, b"", each) for read in (GZIP, DEFLATE, BR) for each in (b"\x1f", b"\x1f\x8b", b"\x78\x9c", b"\x03\x00", b"\x00", b"[", b"\x3b", b"a")),
+    *(
+        Shape(read, b"", each)
+        for read in (GZIP, DEFLATE, BR)
+        for each in (b"\x1f", b"\x1f\x8b", b"\x78\x9c", b"\x03\x00", b"\x00", b"[", b"\x3b", b"a")
+    ),
     Shape(GZIP, bytes.fromhex("1f8b08000000000000030300000000000000000000")[:20], b"x"),
     *(Shape(lambda text: error_of(3, text.decode()), b"warcdx: ", each, b"\n\n") for each in SAID),
     *(Shape(rows_of, b" CDX a b g V", each, b"\n") for each in (b" ", b" a")),

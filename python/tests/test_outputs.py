@@ -51,31 +51,28 @@ class Pipes(Case):
 
 
 class Limits(Case):
-    def limited(self, limit: str, *words: str) -> "tuple[int, bytes, list[str]]":
+    def limited(self, limit: str, *words: str, given: bytes = b"") -> "tuple[int, bytes, list[str]]":
         """Returns the status, what was said, and what is left in the folder for temporary files."""
         temporary = self.folder / "temporary"
         temporary.mkdir(exist_ok=True)
         command = ("prlimit", limit, str(FOLDER / "bin" / words[0]), "--warcdx", PROGRAM, *words[1:])
-        done = subprocess.run(
-            command, cwd=self.folder, capture_output=True, timeout=WAIT, env={**os.environ, "TMPDIR": str(temporary)}
-        )
+        environment = {**os.environ, "TMPDIR": str(temporary)}
+        done = subprocess.run(command, cwd=self.folder, input=given, capture_output=True, timeout=WAIT, env=environment)
         return done.returncode, done.stderr, os.listdir(temporary)
 
     def test_temporary_files_that_can_not_grow_are_said(self) -> None:
-        """The program's own message about its output has no reason."""
+        """Only what can be read once is copied to one."""
         self.put(f"{CDX}\n" * 300, "a.cdx")
-        for size in (64, 1000, 4096, 20_000):
-            found = self.limited(f"--fsize={size}", "warcdx-cdx", "from", "a.cdx")
+        for size in (64, 1000, 4096):
+            found = self.limited(f"--fsize={size}", "warcdx-cdx", "to", given=lines(100).encode())
             self.assertEqual((3, b"warcdx-cdx: File too large\n", []), found, size)
+            self.assertEqual((0, b"", []), self.limited(f"--fsize={size}", "warcdx-cdx", "from", "a.cdx"))
 
     def test_few_open_files_leave_no_folder(self) -> None:
         for name in ("a.warc.gz", "b.warc.gz"):
             (self.folder / name).write_bytes(b"".join(packed(resource(0), resource(1))))
         index = self.put(lines(3))
-        for words in (
-            ("warcdx-verify", "--jobs", "2", "a.warc.gz", "b.warc.gz"),
-            ("warcdx-cdx", "to", str(index), "/dev/null"),
-        ):
+        for words in (("warcdx-verify", "--jobs", "2", "a.warc.gz", "b.warc.gz"), ("warcdx-cdx", "to", str(index), "/dev/null")):
             for files in range(5, 20):
                 status, said, left = self.limited(f"--nofile={files}", *words)
                 self.assertEqual([], left, (words, files))

@@ -72,7 +72,7 @@ class Programs(Case):
     def test_a_query_whose_program_is_killed_is_asked_once_more(self) -> None:
         """The first run writes a part of a page. The second one answers."""
         text = '[ "$1" = serve ] || exec "%s" "$@"\nmkdir "$0.first" 2> /dev/null || exec "%s" "$@"\n'
-        ends = ("read query\nprintf '[[\"offset\"],\\n[\"1\"],'\nkill -9 $$", "kill -9 $$", "read query; exit 0")
+        ends = ('read query\nprintf \'[["offset"],\\n["1"],\'\nkill -9 $$', "kill -9 $$", "read query; exit 0")
         for number, end in enumerate(ends):
             folder = self.folder / str(number)
             folder.mkdir()
@@ -156,6 +156,22 @@ class Programs(Case):
             self.raises(ReplyTooLate, index.text, ALL)
         self.raises(ReplyTooLate, index.count, ALL)
         self.assertLess(time.monotonic() - start, WAIT)
+
+    def test_what_is_called_while_a_reply_is_waited_for_can_end_it(self) -> None:
+        text = f'[ "$1" = serve ] || exec "{PROGRAM}" "$@"\nread query\nexec sleep {WAIT}'
+        index = self.open(self.put(lines(3)), program=self.script(text), seconds=WAIT)
+        calls: list[None] = []
+
+        def waits() -> None:
+            calls.append(None)
+            if len(calls) == 2:
+                raise KeyError
+
+        index.waits = waits
+        start = time.monotonic()
+        self.raises(KeyError, index.text, ALL)
+        self.assertLess(time.monotonic() - start, WAIT / 2)
+        self.assertEqual([], children_of(os.getpid()))
 
     def test_a_program_that_reads_no_query_is_late(self) -> None:
         text = f'[ "$1" = serve ] || exec "{PROGRAM}" "$@"\nexec sleep {WAIT}'

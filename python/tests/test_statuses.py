@@ -143,8 +143,7 @@ class Package(Case):
 
     def test_the_message_says_what_is_missing(self) -> None:
         self.assertEqual(
-            "warcdx has ended, and the system has no exit status of it, as if SIGCHLD is ignored",
-            str(ProgramEnded(NO_STATUS, "")),
+            "warcdx has ended, and the system has no exit status of it, as if SIGCHLD is ignored", str(ProgramEnded(NO_STATUS, ""))
         )
         self.assertEqual("warcdx has ended with exit status 3: x", str(ProgramEnded(3, "x\n")))
 

@@ -1,194 +1,72 @@
 """Tests of what warcdx-update is made of. tests/update in the repository runs the command."""
 import io
 import json
+import math
+import os
 import pathlib
 import signal
 import subprocess
 import tempfile
 import unittest
 from collections import Counter
-from collections.abc import Sequence
-from typing import Any, NoReturn
+from collections.abc import Iterator
+from typing import IO, Any, NoReturn
 from unittest import mock
 
-from warcdx import progress, update, update_counts, update_task
-from warcdx.update import Outcome, Programs, Said, Update
-from warcdx.update_counts import Counts, Made
-from warcdx.update_files import CannotUpdate, Fingerprint
-from warcdx.update_folder import Found, Passed
-from warcdx.update_log import HEAD, Identity, Log, Part
-from warcdx.update_reports import damage_of, message_of
-from warcdx.update_results import Removal, Results
-from warcdx.update_settings import Settings, mark, marked
-from warcdx.update_task import Failed, _add_captures, _add_hosts, _whole_lines, index_archive
-from warcdx.update_workers import local_workers
+from warcdx import update_tasks
+from warcdx.states import MOST_RUNS
+from warcdx.update_archives import Found, FoundArchive, Passed
+from warcdx.update_merges import Merging, batches_of
+from warcdx.update_reports import damage_of
+from warcdx.update_tasks import Failed, _causes_of, _Lines, _whole_lines, add_hosts, index_archives, merge_runs
 
 from .support import PROGRAM, SAMPLES
+from .test_update_store import in_folder, lines_of
 
 
-class LogTest(unittest.TestCase):
-    def setUp(self) -> None:
-        folder = tempfile.TemporaryDirectory()
-        self.addCleanup(folder.cleanup)
-        self.path = pathlib.Path(folder.name, "log.jsonl")
+class MergingTest(unittest.TestCase):
+    """By hand: with a ratio of 8, levels begin at 65,536 x 8^n bytes, and the lowest one has the smaller runs too."""
 
-    def part(self, archive: str, file: str = "f") -> Part:
-        return Part(archive, Identity(1, 2, 3, 4), 1, "warcdx: ./a: fault 0 Version", file * 32, 4, 5)
+    def test_eight_runs_of_a_level_become_one(self) -> None:
+        number = Merging(8, False).number
+        self.assertEqual(number([]), 0)
+        self.assertEqual(number([100] * 7), 0)
+        self.assertEqual(number([100] * 8), 8)
+        self.assertEqual(number([100] * 7 + [524_287]), 8)
+        self.assertEqual(number([100] * 7 + [524_288]), 0)
+        self.assertEqual(number([100] * 7 + [600_000] * 8), 15)
+        self.assertEqual(number([500_000] * 8 + [600_000] * 7), 15)
+        self.assertEqual(number([10] * 8 + [600_000] * 7), 8)
+        self.assertEqual(number([10, 20, 1 << 30]), 0)
+        self.assertEqual(Merging(8, True).number([10, 20, 1 << 30]), 3)
 
-    def started(self) -> Log:
-        log = Log(self.path)
-        log.start([], self.path.with_name("new"))
-        return log
+    def test_an_index_has_few_runs_of_which_each_byte_is_written_seldom(self) -> None:
+        for ratio in (2, 8, 16):
+            merging, runs, written = Merging(ratio, False), list[int](), 0
+            for _ in range(3000):
+                runs = sorted([*runs, 100_000])
+                if (number := merging.number(runs)) > 1:
+                    runs, written = sorted([sum(runs[:number]), *runs[number:]]), written + sum(runs[:number])
+                self.assertLessEqual(len(runs), MOST_RUNS)
+            self.assertEqual(sum(runs), 3000 * 100_000)
+            self.assertLessEqual(written, 3000 * 100_000 * (math.log(3000, ratio) + 2))
 
-    def add(self, log: Log, *parts: Part) -> None:
-        for part in parts:
-            log.announce(part)
-            log.add(part)
-        log.close()
+    def test_small_archives_of_a_folder_are_indexed_together(self) -> None:
+        def found(name: str, size: int = 10) -> FoundArchive:
+            return FoundArchive(name, (size, 0, 0, 0))
 
-    def read(self, absent: str = "") -> Log:
-        log = Log(self.path)
-        log.load(lambda part: part.file != absent * 32)
-        return log
-
-    def test_a_log_is_read_back(self) -> None:
-        names = ("a.warc", "b\n\u2028é.warc", "\udcff.warc")
-        self.add(self.started(), *map(self.part, names), self.part("a.warc", "e"))
-        self.assertEqual(self.read().parts, {name: self.part(name) for name in names} | {"a.warc": self.part("a.warc", "e")})
-        self.assertEqual(self.read().files, {"e" * 32, "f" * 32})
-
-    def test_a_part_that_is_not_there_leaves_the_earlier_one(self) -> None:
-        self.add(self.started(), self.part("a.warc", "d"), self.part("a.warc", "e"), self.part("b.warc", "e"))
-        self.assertEqual(self.read(absent="e").parts, {"a.warc": self.part("a.warc", "d")})
-        self.assertEqual(self.read(absent="e").files, {"d" * 32, "e" * 32})
-
-    def test_a_log_that_is_written_anew_names_the_other_parts(self) -> None:
-        self.add(self.started(), self.part("a.warc", "d"), self.part("b.warc", "e"))
-        log = self.read()
-        log.start(["b.warc"], self.path.with_name("new"))
-        self.add(log, self.part("c.warc", "f"))
-        self.assertEqual(self.read().parts, {"b.warc": self.part("b.warc", "e"), "c.warc": self.part("c.warc", "f")})
-        self.assertEqual(self.read().files, {"d" * 32, "e" * 32, "f" * 32})
-
-    def test_lines_that_are_not_whole_are_left_out(self) -> None:
-        self.add(self.started(), self.part("a.warc"), self.part("b.warc"))
-        whole = json.dumps(self.part("c.warc"))
-        with open(self.path, "a") as file:
-            file.write('["c.warc", [1, 2, 3, 4]]\n\0\0\n7\nnull\n["d.warc", [1,\n' + "[" * 100_000 + "\n")
-            changes = (("1, 2,", "1, 2.5,"), ('"c.warc"', "7"), (", 4, 5]", ', "4", 5]'), ("[1, 2, 3, 4]", "[1, 2, 3]"))
-            others = (("4], 1,", "4], 7,"), ("4], 1,", "4], true,"), (", 4, 5]", f", 4, {10**4000}]"), ("[1,", f"[{1 << 65},"))
-            for old, new in changes + others:
-                self.assertIn(old, whole)
-                file.write(whole.replace(old, new) + "\n")
-        self.assertEqual(set(self.read().parts), {"a.warc", "b.warc"})
-
-    def test_a_log_that_names_other_files_is_refused(self) -> None:
-        self.add(self.started(), self.part("a.warc"))
-        for name in ("/home/me/conf", "../" + "f" * 32, "F" * 32, "f" * 31, "f" * 33, "f" * 32 + "\n", "", "lock"):
-            for line in (self.part("a.warc")._replace(file=name), name):
-                self.path.write_text(HEAD + json.dumps(line) + "\n")
-                with self.assertRaises(CannotUpdate):
-                    self.read()
-
-    def test_a_log_of_another_form_is_refused(self) -> None:
-        for head in (HEAD.replace("2", "3"), "", "\n"):
-            self.path.write_text(head + json.dumps(self.part("a.warc")) + "\n")
-            with self.assertRaises(CannotUpdate):
-                self.read()
-
-
-class CountsTest(unittest.TestCase):
-    def counts(self, captures: int, **hosts: int) -> Counts:
-        empty: dict[str, int] = {}
-        return Counts.of({"captures": captures, "hosts": hosts, "years": empty, "types": empty, "statuses": empty})
-
-    def test_what_is_added_can_be_removed(self) -> None:
-        counts = self.counts(3, a=1, b=2)
-        counts.add(self.counts(5, b=4, c=1))
-        self.assertEqual((counts.captures, dict(counts.fields["hosts"])), (8, {"a": 1, "b": 6, "c": 1}))
-        counts.remove(self.counts(3, a=1, b=2))
-        self.assertEqual((counts.captures, dict(counts.fields["hosts"])), (5, {"b": 4, "c": 1}))
-
-    def test_counts_that_no_run_has_written_are_not_taken(self) -> None:
-        for captures in (-1, 1 << 63, 1.5, "1", None):
-            with self.subTest(captures=captures), self.assertRaises((TypeError, ValueError)):
-                self.counts(captures)  # type: ignore[arg-type]
-            with self.subTest(host=captures), self.assertRaises((TypeError, ValueError)):
-                self.counts(1, a=captures)  # type: ignore[arg-type]
-
-    def test_what_an_index_was_made_of_is_known_only_if_it_is_of_parts(self) -> None:
-        path = self.folder() / "made.jsonl"
-        made = Made(Fingerprint(1, 2, 3), Fingerprint(4, 5, 6), {"a.warc": "f" * 32})
-        path.write_text(made.text(self.counts(3, a=1)))
-        self.assertEqual(Made.read(path), made)
-        for parts in ({"a.warc": 5}, {"a.warc": None}, {"a.warc": ["f" * 32]}, {"a.warc": "../x"}, [["a.warc", "f" * 32]], [], 7, None):
-            with self.subTest(parts=parts):
-                path.write_text(json.dumps({**made._asdict(), "parts": parts}) + "\n")
-                self.assertIsNone(Made.read(path))
-
-    def folder(self) -> pathlib.Path:
-        folder = tempfile.TemporaryDirectory()
-        self.addCleanup(folder.cleanup)
-        return pathlib.Path(folder.name)
-
-    def test_the_hosts_of_keys(self) -> None:
-        hosts = {
-            b"com,example)/": b"example.com",
-            b"com,example:8080)/a)/b": b"example.com:8080",
-            b"192.0.2.7)/x": b"192.0.2.7",
-            b"[2001:db8::1]:8080)/": b"[2001:db8::1]:8080",
-            b"dns:example.com": b"dns:",
-            b"dns:example.com)": b"dns:",
-            b"urn:x:a)b)/": b"urn:",
-            b"not%20a%20url": b"not%20a%20url:",
-            b"": b":",
-        }
-        for key, host in hosts.items():
-            counts = Counter[bytes]()
-            _add_hosts(counts, [key, key])
-            self.assertEqual(counts, {host: 2}, key)
-        sorted_keys = [b"com,a)/", b"com,a)/x", b"com,a)/x", b"com,a,b)/", b"com,a:80)/", b"com,ab)/", b"dns:a", b"dns:b"]
-        counts = Counter[bytes]()
-        _add_hosts(counts, sorted_keys)
-        self.assertEqual(counts, {b"a.com": 3, b"b.a.com": 1, b"a.com:80": 1, b"ab.com": 1, b"dns:": 2})
-
-
-    def test_counts_are_bounded(self) -> None:
-        """The values with the most captures are counted, and the captures of the others are known in all."""
-        counts = self.counts(0)
-        with mock.patch.object(update_counts, "MOST_KEPT", 3):
-            for number in range(20):
-                hosts = {"most": 5, f"host{number:02}": 2, f"few{number:02}": 1}
-                counts.add(self.counts(9, **hosts))
-            counts.limit()
-        self.assertEqual(dict(counts.fields["hosts"]), {"most": 100, "host00": 2, "host01": 2})
-        self.assertEqual(counts.others, {"hosts": 180 - 104, "years": 180, "types": 180, "statuses": 180})
-        counts.remove(self.counts(9, most=5, host00=3, host19=2))
-        self.assertEqual((counts.captures, dict(counts.fields["hosts"])), (171, {"most": 95, "host01": 2}))
-
-
-class SettingsTest(unittest.TestCase):
-    def test_a_folder_that_is_marked_is_known_again(self) -> None:
-        with tempfile.TemporaryDirectory() as name:
-            folder = pathlib.Path(name)
-            settings = Settings.of(name, True, ["metadata", "response"])
-            self.assertIsNone(marked(folder))
-            made = mark(folder, settings)
-            self.assertEqual(marked(folder), made)
-            self.assertEqual(made.settings, settings)
-            text = (folder / "settings.json").read_text()
-            for length in range(len(text.rstrip())):  # of a run that was ended as it wrote it
-                (folder / "settings.json").write_text(text[:length])
-                self.assertIsNone(marked(folder))
-                (folder / "other").touch()
-                with self.assertRaises(CannotUpdate):
-                    marked(folder)
-                (folder / "other").unlink()
-
-    def test_the_words_of_the_types(self) -> None:
-        self.assertEqual(Settings.of("/", False, None).words, ())
-        self.assertEqual(Settings.of("/", False, ["revisit", "resource", "response"]).words, ())
-        self.assertEqual(Settings.of("/", False, ["metadata", "response"]).words, ("--types", "response,metadata"))
+        archives = [
+            found("a.warc"),
+            found("b.warc"),
+            found("x/a.warc"),
+            found("x/b.warc"),
+            found("big.warc", 1 << 30),
+            found("c\nd.warc"),
+            FoundArchive("pipe.warc", None),
+        ]
+        batches = [[each.name for each in batch] for batch in batches_of(archives)]
+        self.assertEqual(batches, [["big.warc"], ["c\nd.warc"], ["pipe.warc"], ["a.warc", "b.warc"], ["x/a.warc", "x/b.warc"]])
+        self.assertEqual([len(batch) for batch in batches_of([found(f"{number}.warc") for number in range(600)])], [256, 256, 88])
 
 
 class Lookups(dict[str, str]):
@@ -231,21 +109,93 @@ class TaskTest(unittest.TestCase):
     def test_a_status_that_is_not_given_is_an_error(self) -> None:
         usual = signal.signal(signal.SIGCHLD, signal.SIG_IGN)
         self.addCleanup(signal.signal, signal.SIGCHLD, usual)
-        with tempfile.TemporaryDirectory() as name:
-            for sample in ("damaged", "response"):
-                with self.assertRaisesRegex(Failed, "status"):
-                    index_archive([PROGRAM], [PROGRAM], str(SAMPLES), name, f"{sample}.warc")
-            self.assertEqual(list(pathlib.Path(name).iterdir()), [])
+        folder = in_folder(self)
+        for sample in ("damaged", "response"):
+            with self.assertRaisesRegex(Failed, "status"):
+                index_archives(PROGRAM, str(SAMPLES), [f"{sample}.warc"], str(folder / "new"))
+        self.assertEqual(list(folder.iterdir()), [])
+
+    def test_what_several_archives_have_is_told_apart(self) -> None:
+        folder = in_folder(self)
+        names = ["damaged.warc", "response.warc", "wget.warc"]
+        written, indexed = index_archives(PROGRAM, str(SAMPLES), names, str(folder / "new"))
+        wanted = subprocess.run(
+            (PROGRAM, "index", *(SAMPLES / name for name in names)), stdout=subprocess.PIPE, stderr=subprocess.DEVNULL
+        ).stdout
+        self.assertEqual([path.read_bytes() for path in folder.iterdir()], [wanted])
+        self.assertEqual(written[:3], (str(*folder.iterdir()), len(wanted), 36))
+        self.assertEqual(
+            [(name, cause, captures) for name, _, cause, captures in indexed],
+            [("damaged.warc", "fault 448 ShortBlock", 2), ("response.warc", "", 1), ("wget.warc", "", 33)],
+        )
+
+    def test_what_the_program_says_needs_no_disk(self) -> None:
+        folder = in_folder(self)
+        with mock.patch.object(tempfile, "tempdir", os.devnull):
+            _, indexed = index_archives(PROGRAM, str(SAMPLES), ["damaged.warc", "response.warc"], str(folder / "new"))
+        self.assertEqual([each[2] for each in indexed], ["fault 448 ShortBlock", ""])
+
+    def test_types_and_urls_may_have_quotes_and_backslashes(self) -> None:
+        """A server chooses them."""
+        types = ['"text/html', "a\\", '", "mime": "b', '", "status": "7', '", "filename": "c"}']
+        folder = in_folder(self)
+        with open(folder / "a.warc", "wb") as archive:
+            for kind in types:
+                block = f"HTTP/1.1 200 OK\r\nContent-Type: {kind}; q=1\r\n\r\n"
+                fields = f"WARC-Type: response\r\nWARC-Record-ID: <urn:x:a>\r\nWARC-Target-URI: http://a.com/{kind}\r\nWARC-Date: 2016-01-01T00:00:00Z"
+                fields += "\r\nContent-Type: application/http"
+                archive.write(f"WARC/1.0\r\n{fields}\r\nContent-Length: {len(block)}\r\n\r\n{block}\r\n\r\n".encode())
+        written, indexed = index_archives(PROGRAM, str(folder), ["a.warc"], str(folder / "new"))
+        self.assertEqual([each[2:] for each in indexed], [("", len(types))])
+        self.assertEqual(written[3]["types"], dict.fromkeys(types, 1))
+        self.assertEqual(written[3]["statuses"], {"200": len(types)})
+
+    def test_lines_have_the_path_of_their_archive(self) -> None:
+        file = open(in_folder(self) / "lines", "w+b")
+        self.addCleanup(file.close)
+        names = ['é "/x.warc', 'é "/y.warc']
+        lines = _Lines(file, names)
+        lines.write(lines_of(range(2), "x.warc") + lines_of(range(1), "y.warc"))
+        lines.end()
+        self.assertEqual(lines.captures, dict(zip(names, (2, 1))))
+        self.assertEqual([json.loads(line.split(b" ", 2)[2])["filename"] for line in self.read(file)], [names[0], names[0], names[1]])
+        for other in (lines_of(range(1), "z.warc"), b"com,a)/ 20160101000000 {}\n"):
+            with self.assertRaises(Failed):
+                lines.write(other)
+                lines.end()
+
+    def read(self, file: IO[bytes]) -> list[bytes]:
+        file.seek(0)
+        return file.readlines()
+
+    def test_runs_are_filtered_and_merged(self) -> None:
+        folder = in_folder(self)
+        with mock.patch.object(update_tasks, "MOST_MERGED", 3):
+            for number in range(10):
+                (folder / str(number)).write_bytes(lines_of(range(number, number + 2), f"{number}.warc"))
+            (folder / "mixed").write_bytes(lines_of(range(3), "a.warc") + lines_of(range(5, 7), "b.warc"))
+            runs: list[Any] = [*((str(number), None) for number in range(10)), ("mixed", ["b.warc"])]
+            path, size, filtered = merge_runs(PROGRAM, str(folder), runs, str(folder / "new"))
+        found = pathlib.Path(path).read_bytes()
+        names = [json.loads(line.split(b" ", 2)[2])["filename"] for line in found.splitlines()]
+        self.assertEqual(Counter(names), {**{f"{number}.warc": 2 for number in range(10)}, "b.warc": 2})
+        self.assertEqual((size, [each[1:3] for each in filtered]), (len(found), [(len(lines_of(range(5, 7), "b.warc")), 2)]))
+        self.assertEqual({path.name for path in folder.iterdir()}, {*map(str, range(10)), "mixed", os.path.basename(path)})
+        path, size, filtered = merge_runs(PROGRAM, str(folder), [("mixed", ["a.warc"])], str(folder / "only"))
+        self.assertEqual(pathlib.Path(path).read_bytes(), lines_of(range(3), "a.warc"))
+        self.assertEqual(filtered[0][3]["hosts"], {"h000.com": 1, "h001.com": 1, "h002.com": 1})
 
     def test_values_are_bounded(self) -> None:
-        counts = {name: Counter[bytes]() for name in ("hosts", "years", "types", "statuses")}
-        with mock.patch.object(update_task, "_MOST_VALUES", 10):
+        with mock.patch.object(update_tasks, "MOST_VALUES", 100):
+            lines = _Lines(open(os.devnull, "wb"))
+            self.addCleanup(lines._file.close)
             for number in range(1000):
-                kind = b"x" * 300 if number % 2 else b"%d" % number
-                _add_captures(counts, b"com,h%d)/ 20160101000000 %b 200\n" % (number, kind))
+                lines.write(lines_of(range(number, number + 1), kind="x" * 300 if number % 2 else str(number)))
+            _, _, captures, counts = lines.end()
+        self.assertEqual(captures, 1000)
         self.assertLessEqual(len(counts["hosts"]), 100)
-        self.assertEqual(counts["types"][b"x" * 256], 500)
-        self.assertEqual(counts["statuses"], {b"200": 1000})
+        self.assertEqual(counts["types"]["x" * 256], 500)
+        self.assertEqual(counts["statuses"], {"200": 1000})
 
     def test_pieces_end_with_lines(self) -> None:
         text = b"a" * (3 << 20) + b"\nb\n\nc\n"
@@ -255,44 +205,38 @@ class TaskTest(unittest.TestCase):
         self.assertEqual(list(_whole_lines(io.BytesIO(b""))), [])
 
     def test_what_the_program_says(self) -> None:
-        self.assertEqual(message_of("warcdx: ./a: b\nc.warc: fault 448 ShortBlock"), "fault 448 ShortBlock")
-        self.assertEqual(message_of("warcdx-gz: ./a.warc.gz: fault 0 BadMember"), "fault 0 BadMember")
-        self.assertEqual(message_of("warcdx: ./a.warc: cannot open"), "cannot open")
-        self.assertEqual(message_of("warcdx: Memory"), "warcdx: Memory")
+        def causes(said: str, *names: str) -> Iterator[str]:
+            yield from _causes_of(io.BytesIO(said.encode()), names).values()
+
+        self.assertEqual([*causes("warcdx: ./a: b\nc.warc: fault 448 ShortBlock\n", "a: b\nc.warc")], ["fault 448 ShortBlock"])
+        self.assertEqual([*causes("warcdx-gz: ./b.gz: fault 0 BadMember\n  Its text.\n", "a.gz", "b.gz")], ["", "fault 0 BadMember"])
+        self.assertEqual([*causes("warcdx: ./a.warc: cannot open\n  No such file\n", "a.warc")], ["cannot open"])
+        self.assertEqual([*causes("warcdx: Memory\n", "a.warc")], ["warcdx: Memory"])
+        with self.assertRaises(Failed):
+            [*causes("warcdx: Memory\n", "a.warc", "b.warc")]
         for offset, known in (("9" * 19, int("9" * 19)), ("9" * 5000, None)):
-            part = Part("a", Identity(1, 2, 3, 4), 1, f"warcdx: ./a: fault {offset} Version", "f" * 32, 4, 5)
-            self.assertEqual(damage_of(part)["offset"], known)
+            self.assertEqual(damage_of("a", f"fault {offset} Version")["offset"], known)
 
-
-class LevelsTest(unittest.TestCase):
-    def test_parts_are_merged_in_levels(self) -> None:
-        """Ten parts are merged by at most three at a time, in three levels: of 4 merges, of 2 and of 1."""
-        with tempfile.TemporaryDirectory() as name, mock.patch.object(update, "MOST", 3):
-            folder = pathlib.Path(name, "archives")
-            folder.mkdir()
-            sample = (SAMPLES / "response.warc").read_bytes()
-            for number in range(10):
-                (folder / f"{number}.warc").write_bytes(sample)
-            merges = []
-            usual = update.merge_parts
-
-            def merge(program: object, place: str, parts: Sequence[str], output: str, **options: object) -> None:
-                merges.append(len(parts))
-                usual(program, place, parts, output, **options)  # type: ignore[arg-type]
-
-            results = Results(str(pathlib.Path(name, "all.cdxj")))
-            programs = Programs((PROGRAM,), (PROGRAM,))
-            with mock.patch.object(update, "merge_parts", merge):
-                settings = Settings.of(str(folder), False, None)
-                work = Update(settings, results, programs, lambda: local_workers(2), progress.Silent())
-                outcomes: list[Outcome] = []
-                self.assertEqual(work.run(Removal(0, False), lambda found: outcomes.append(found) or Said(5, [])), 5)
-            (outcome,) = outcomes
-            self.assertIsNone(outcome.failure)
-            wanted = subprocess.run((PROGRAM, "index", *sorted(folder.iterdir())), stdout=subprocess.PIPE, check=True).stdout
-            self.assertEqual(results.index.read_bytes(), wanted)
-            self.assertEqual(sorted(merges), [1, 1, 2, 3, 3, 3, 3])
-            self.assertEqual([report.captures for report in outcome.reports], [1] * 10)
+    def test_the_hosts_of_keys(self) -> None:
+        hosts = {
+            b"com,example)/": b"example.com",
+            b"com,example:8080)/a)/b": b"example.com:8080",
+            b"192.0.2.7)/x": b"192.0.2.7",
+            b"[2001:db8::1]:8080)/": b"[2001:db8::1]:8080",
+            b"dns:example.com": b"dns:",
+            b"dns:example.com)": b"dns:",
+            b"urn:x:a)b)/": b"urn:",
+            b"not%20a%20url": b"not%20a%20url:",
+            b"": b":",
+        }
+        for key, host in hosts.items():
+            counts = Counter[bytes]()
+            add_hosts(counts, [key, key])
+            self.assertEqual(counts, {host: 2}, key)
+        sorted_keys = [b"com,a)/", b"com,a)/x", b"com,a)/x", b"com,a,b)/", b"com,a:80)/", b"com,ab)/", b"dns:a", b"dns:b"]
+        counts = Counter[bytes]()
+        add_hosts(counts, sorted_keys)
+        self.assertEqual(counts, {b"a.com": 3, b"b.a.com": 1, b"a.com:80": 1, b"ab.com": 1, b"dns:": 2})
 
 
 if __name__ == "__main__":

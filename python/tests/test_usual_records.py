@@ -71,7 +71,6 @@ class Archives(Case):
         for archive in self.archives(*records):
             places: list[tuple[Optional[int], Optional[int]]] = [(each.offset, each.length) for each in archive.list()]
             found = list(archive)
-            places[3] = (places[3][0], None)  # the program writes it, and not its length
             self.assertEqual(places, [(each.offset, each.length) for each in found])
             self.assertEqual(found[0], found[2])  # wherever they are
             for offset, length in places:
@@ -112,7 +111,7 @@ class Archives(Case):
                     self.assertEqual((archive.path, end.offset + end.length), (fault.file, fault.offset))
 
     def test_faults_of_members_are_raised(self) -> None:
-        member, = packed(RECORD)
+        (member,) = packed(RECORD)
         path = self.folder / "a.warc.gz"
         for end, kind in (
             (member[:-1], faults.CutMember), (member[:-5] + b"x" + member[-4:], faults.BadMember), (b"\0" * 9, faults.NoMember),
@@ -124,7 +123,7 @@ class Archives(Case):
             self.raises(kind, next, records)
 
     def test_members_without_a_text_are_passed_over(self) -> None:
-        member, = packed(RECORD)
+        (member,) = packed(RECORD)
         empty = gzip.compress(b"")
         path = self.folder / "a.warc.gz"
         path.write_bytes(empty + member + empty * 2 + member + empty)
@@ -136,7 +135,7 @@ class Archives(Case):
 
     def test_the_file_decides_what_a_place_in_it_holds(self) -> None:
         """A member in a plain archive is no record, and neither is a record in a compressed one."""
-        member, = packed(RECORD)
+        (member,) = packed(RECORD)
         stored = gzip.compress(resource(1, b"x" + RECORD), 0)
         for archive, offset, length in (
             (self.archives(RECORD)[0], len(RECORD), len(member)), (self.archives(RECORD)[1], stored.index(RECORD), len(RECORD))
@@ -182,8 +181,8 @@ class Archives(Case):
             open_archive(SAMPLES / "wget.warc", program=PROGRAM).index(output)
         with Collection(self.folder / "index", SAMPLES, program=PROGRAM) as collection:
             self.assertEqual(33, len(list(collection.records())))
-            record, = collection.records("127.0.0.1:8000/odd/gone")
-            capture, = collection.captures("127.0.0.1:8000/odd/gone")
+            (record,) = collection.records("127.0.0.1:8000/odd/gone")
+            (capture,) = collection.captures("127.0.0.1:8000/odd/gone")
             self.assertEqual((b"gone\n", record), (payload(record), collection.record(capture)))
 
 

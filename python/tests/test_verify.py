@@ -15,7 +15,8 @@ from typing import Any, Optional
 
 from warcdx import Archive
 from warcdx.digests import Digest
-from warcdx.record_digests import RecordCheck
+from warcdx.record import CLOSING, Head
+from warcdx.record_digests import BlockCheck
 
 from .support import ENDING, PROGRAM, SAMPLES, WAIT, Case, wait_until_caught
 
@@ -41,9 +42,7 @@ def sha1_of(text: bytes) -> str:
     return f"sha1:{hashlib.sha1(text).hexdigest()}"
 
 
-def record(
-    block: bytes, digest: Optional[str] = None, payload: Optional[str] = None, kind: str = "response", *others: str
-) -> bytes:
+def record(block: bytes, digest: Optional[str] = None, payload: Optional[str] = None, kind: str = "response", *others: str) -> bytes:
     """Returns a record with these digests."""
     fields = [
         f"WARC-Type: {kind}", "WARC-Record-ID: <urn:x>", "WARC-Date: 2016-01-01T00:00:00Z",
@@ -61,11 +60,12 @@ def http(block: bytes, digest: Optional[str] = None, payload: Optional[str] = No
 
 
 def verdicts(text: bytes, size: int = 65_536) -> str:
-    """Returns the verdicts on a record that is read in pieces of a size."""
-    check = RecordCheck()
-    for start in range(0, len(text), size):
-        assert not check.add(memoryview(text)[start : start + size])
-    assert check.is_whole
+    """Returns the verdicts on a record whose block is read in pieces of a size."""
+    head, _, rest = text.partition(CLOSING)
+    block = rest.removesuffix(CLOSING)
+    check = BlockCheck(Head(Head.fields_of(head)), len(block))
+    for start in range(0, len(block), size):
+        check.add(block[start : start + size])
     return " ".join(verdict.value for verdict in check.verdicts())
 
 
@@ -274,16 +274,9 @@ class Command(Case):
 
     def test_a_full_disk_is_said(self) -> None:
         name = self.put_bytes(record(b"abc", OF_ABC[0]) * 1000)
-        for arguments in ((name,), ("--jobs", "2", name, name), ("--help",)):
-            for environment in ({}, {"PYTHONUNBUFFERED": "1"}):
-                with open(self.folder / "output", "wb") as output:
-                    done = subprocess.run(
-                        (sys.executable, COMMAND, "--warcdx", os.path.abspath(PROGRAM), *arguments), cwd=self.folder,
-                        stdout=output, stderr=subprocess.PIPE, text=True, env={**os.environ, **environment},
-                        preexec_fn=lambda: resource.setrlimit(resource.RLIMIT_FSIZE, (1000, 1000)),
-                    )  # fmt: skip
-                self.assertEqual(3, done.returncode, (arguments, done.stderr))
-                self.assertRegex(done.stderr, r"\A(warcdx-verify: Write: File too large\n)+\Z")
+        self.expect_a_full_disk_is_said(
+            COMMAND, r"(warcdx-verify: Write: File too large\n)+", (name,), ("--jobs", "2", name, name), ("--help",)
+        )
 
     def test_a_signal_ends_it_without_a_word_and_leaves_nothing(self) -> None:
         os.mkfifo(self.folder / "pipe")  # which nobody writes, so that reading it doesn't end

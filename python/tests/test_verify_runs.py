@@ -12,9 +12,7 @@ import threading
 import time
 import unittest
 from typing import Any
-from unittest import mock
 
-from warcdx import resuming
 from warcdx.resuming import CannotResume, Notes
 
 from .support import PROGRAM, WAIT, Case, children_of
@@ -40,9 +38,10 @@ class Runs(Case):
 
     def noted(self, name: str = "notes") -> list[str]:
         """Returns the names of the archives that are noted."""
-        head, *lines = (self.folder / name).read_text().splitlines()
-        self.assertEqual([FORM, len(lines)], json.loads(head))
-        return [os.path.relpath(json.loads(line)[0], self.folder) for line in lines]
+        head, *lines = filter(None, (self.folder / name).read_text().splitlines())
+        self.assertEqual(FORM, json.loads(head))
+        notes = dict(json.loads(line) for line in lines if line.endswith("]"))
+        return [os.path.relpath(path, self.folder) for path, note in notes.items() if note is not None]
 
 
 class Quiet(Runs):
@@ -78,7 +77,9 @@ class Quiet(Runs):
     def test_a_fault_is_printed_while_other_archives_are_read(self) -> None:
         os.mkfifo(self.folder / "pipe")  # which nobody writes
         self.put_bytes("bad.warc", BAD)
-        with subprocess.Popen(self.command("--quiet", "--jobs", "2", "pipe", "bad.warc"), cwd=self.folder, stdout=subprocess.PIPE) as process:
+        with subprocess.Popen(
+            self.command("--quiet", "--jobs", "2", "pipe", "bad.warc"), cwd=self.folder, stdout=subprocess.PIPE
+        ) as process:
             assert process.stdout is not None
             timer = threading.Timer(WAIT, process.terminate)
             timer.start()
@@ -131,7 +132,9 @@ class Quiet(Runs):
 
     def test_a_terminal_that_shows_each_record_has_no_bar(self) -> None:
         names = [self.put_bytes("0.warc", GOOD), self.put_bytes("1.warc", GOOD), self.put_bytes("bad.warc", BAD)]
-        self.assertEqual(("bad.warc: 0 differs absent\r\nwarcdx-verify: 1 archive: 1 at fault\r\n", 1), self.on_terminal("--quiet", names[2]))
+        self.assertEqual(
+            ("bad.warc: 0 differs absent\r\nwarcdx-verify: 1 archive: 1 at fault\r\n", 1), self.on_terminal("--quiet", names[2])
+        )
         shown, status = self.on_terminal("--jobs", "2", *names)
         self.assertEqual("0.warc:\r\n0 same absent\r\n1.warc:\r\n0 same absent\r\nbad.warc:\r\n0 differs absent\r\n", shown)
 
@@ -186,7 +189,9 @@ class Resume(Runs):
     def test_archives_that_are_given_twice(self) -> None:
         self.put_bytes("a.warc", GOOD)
         for jobs in ("1", "3"):
-            self.assertEqual(([], [], 0), self.run_command("--quiet", "--resume", f"notes{jobs}", "--jobs", jobs, *["a.warc", "./a.warc"] * 3))
+            self.assertEqual(
+                ([], [], 0), self.run_command("--quiet", "--resume", f"notes{jobs}", "--jobs", jobs, *["a.warc", "./a.warc"] * 3)
+            )
             self.assertEqual(["a.warc"], self.noted(f"notes{jobs}"))
 
     def test_a_run_that_is_broken_off_has_noted_what_it_has_read(self) -> None:
@@ -207,18 +212,10 @@ class Resume(Runs):
 
     def test_other_files_stay_as_they_are(self) -> None:
         self.put_bytes("a.warc", GOOD)
-        head, note = json.dumps([FORM, 1]).encode() + b"\n", json.dumps(["/a.warc", 1, 2, 3]).encode() + b"\n"
         self.put_bytes("b.warc", GOOD)
-        for text, reason in (
-            (GOOD, "isn't a file of --resume"), (b"", "isn't a file of --resume"), (b"x" * 200_000, "isn't a file of --resume"),
-            (b"[" * 60_000, "isn't a file of --resume"), (b"[1, 2]\n", "isn't a file of --resume"), (head[1:] + note, "isn't a file"),
-            (head, "is damaged"), (head + note[:-1], "is damaged"), (head + note[:-3], "is damaged"), (head + note * 2, "is damaged"),
-            (head + note + b"\n", "is damaged"), (head + note.replace(b"3", b"3.5"), "is damaged"), (head + b"[" * 60_000, "is damaged"),
-            (head + note.replace(b", 3", b""), "is damaged"), (head + note.replace(b'"/a.warc"', b"0"), "is damaged"),
-            (head + b"[[], 1, 2, 3]\n", "is damaged"), (head + b"\xff\n", "is damaged"),
-        ):  # fmt: skip
+        for text in (GOOD, b"x" * 200_000, b"[" * 60_000, b"[1, 2]\n", f'["{FORM}"]\n'.encode(), f'"{FORM}"'.encode(), b"\n"):
             self.put_bytes("notes", text)
-            with self.assertRaisesRegex(CannotResume, reason):
+            with self.assertRaisesRegex(CannotResume, "isn't a file of --resume"):
                 Notes(str(self.folder / "notes"))
             self.assertEqual(text, (self.folder / "notes").read_bytes())
         found = self.run_command("--resume", "b.warc", "a.warc")
@@ -226,23 +223,53 @@ class Resume(Runs):
         self.assertEqual({"a.warc", "b.warc", "notes"}, set(os.listdir(self.folder)))
         self.assertEqual(GOOD, (self.folder / "b.warc").read_bytes())
 
+    def test_damaged_notes_are_passed_over(self) -> None:
+        """Those after them count, also if one was cut."""
+        names = [str(self.folder / self.put_bytes(name, GOOD)) for name in ("a.warc", "b.warc")]
+        first = Notes(str(self.folder / "notes"))
+        for number, name in enumerate(names):
+            first.begin(number, name)
+            first.end(number, name, True)
+            first.save()
+        head, _, *notes = (self.folder / "notes").read_bytes().split(b"\n")
+        wrong = (
+            b"",
+            b"[" * 60_000,
+            b"\xff",
+            b"1",
+            b"null",
+            b"{}",
+            b'["/a", 1]',
+            b"[[], null]",
+            b'["/a", [1, 2]]',
+            b"[1, [1, 2, 3]]",
+            b"[]",
+        )
+        for note in (*wrong, notes[0][:-1], b"x" * 200_000):
+            (self.folder / "notes").write_bytes(b"\n".join((head, note, notes[1])))
+            found = Notes(str(self.folder / "notes"))
+            self.assertEqual([False, True], list(map(found.has, names)), note[:40])
+
     def test_what_can_not_hold_notes_is_said_before_anything_is_read(self) -> None:
         self.put_bytes("a.warc", GOOD)
         os.mkfifo(self.folder / "pipe")
         for name, said in (
-            (".", ". isn't a regular file, and isn't replaced"), ("pipe", "pipe isn't a regular file, and isn't replaced"),
+            (".", ". isn't a regular file"), ("pipe", "pipe isn't a regular file"),
             ("nosuch/notes", "nosuch/notes: No such file or directory"), ("a.warc/notes", "a.warc/notes: Not a directory"),
             ("/proc/notes\n", '"/proc/notes\\n": No such file or directory'), ("n" * 300, f"{'n' * 300}: File name too long"),
-            ("/dev/full", "/dev/full isn't a regular file, and isn't replaced"),
+            ("/dev/full", "/dev/full isn't a regular file"),
         ):  # fmt: skip
             self.assertEqual(([], [f"warcdx-verify: {said}"], 3), self.run_command("--resume", name, "a.warc"), name)
-        limit = {"preexec_fn": lambda: resource.setrlimit(resource.RLIMIT_FSIZE, (10, 10))}
-        self.assertEqual(([], ["warcdx-verify: notes: File too large"], 3), self.run_command("--quiet", "--resume", "notes", "a.warc", **limit))
-        self.assertEqual({"a.warc", "pipe"}, set(os.listdir(self.folder)))
+        limit = {"preexec_fn": lambda: resource.setrlimit(resource.RLIMIT_FSIZE, (0, 0))}
+        self.assertEqual(
+            ([], ["warcdx-verify: notes: File too large"], 3), self.run_command("--quiet", "--resume", "notes", "a.warc", **limit)
+        )
+        self.assertEqual({"a.warc", "pipe", "notes"}, set(os.listdir(self.folder)))
+        self.assertEqual(0, self.run_command("--quiet", "--resume", "notes", "a.warc")[2])
 
     def test_a_disk_that_gets_full_loses_notes_and_no_verdict(self) -> None:
         names = [self.put_bytes(f"{number}.warc", GOOD) for number in range(5)] + [self.put_bytes("bad.warc", BAD)]
-        limit = {"preexec_fn": lambda: resource.setrlimit(resource.RLIMIT_FSIZE, (100, 100))}
+        limit = {"preexec_fn": lambda: resource.setrlimit(resource.RLIMIT_FSIZE, (40, 40))}
         found = self.run_command("--quiet", "--resume", "notes", *names[:-1], **limit)
         self.assertEqual(([], ["warcdx-verify: notes: File too large"], 3), found)
         for jobs in ("1", "2"):
@@ -288,10 +315,6 @@ class Resume(Runs):
         runs[1].end(0, names[0], False)
         runs[1].save()
         self.assertEqual(["b.warc"], self.noted())
-        self.put_bytes("notes", b"mine")
-        with self.assertRaises(CannotResume):
-            runs[0].save()
-        self.assertEqual(b"mine", (self.folder / "notes").read_bytes())
 
     def test_a_link_to_notes_stays_one(self) -> None:
         os.symlink("notes", self.folder / "link")
@@ -300,13 +323,6 @@ class Resume(Runs):
             self.assertEqual(0, self.run_command("--resume", "link", "a.warc")[2])
             self.assertEqual(["a.warc"], self.noted())
             self.assertTrue((self.folder / "link").is_symlink())
-
-    def test_the_file_is_replaced_after_a_pause(self) -> None:
-        with mock.patch.object(resuming, "_PAUSE", 0.05):
-            notes = Notes(str(self.folder / "notes"))
-            self.assertFalse(notes.is_due)
-            time.sleep(2)
-            self.assertTrue(notes.is_due)
 
 
 if __name__ == "__main__":

@@ -1,6 +1,7 @@
 """The verdicts on all records of an archive, whichever way finds them."""
 import gzip
 import itertools
+import pathlib
 import random
 import tracemalloc
 import unittest
@@ -76,37 +77,35 @@ class Files(Case):
             self.assertEqual((0, Verdict.SAME, Verdict.ABSENT), found)
 
     def test_a_file_that_is_changed_while_it_is_read(self) -> None:
-        path = self.folder / "a.warc"
         text = record(bytes(1_000_000), sha1_of(bytes(1_000_000)))
         longer = text.replace(b"Content-Length: 1000000", b"Content-Length: 1000001")
         for last, name in (
             (text[:50], "ShortHead"), (text[:500_000], "ShortBlock"), (text[:-2], "Closing"), (longer, "Closing")
         ):  # fmt: skip
-            path.write_bytes(text * 3)
-            checked = check_archive(open_archive(path, program=PROGRAM))
-            self.assertEqual(0, next(checked).offset)  # the third record isn't read yet
-            with open(path, "r+b") as file:
-                file.seek(2 * len(text))
-                file.write(last)
-                file.truncate()
-            self.assertEqual(len(text), next(checked).offset)
-            found = self.raises(faults.BY_NAME[name], next, checked)
-            self.assertEqual((str(path), 2 * len(text)), (found.file, found.offset))
+            self.expect_changed(self.folder / "a.warc", text, last, name)
+
+    def expect_changed(self, path: pathlib.Path, text: bytes, last: bytes, name: str) -> None:
+        """Checks three records, of which the last becomes other bytes before it is read. It has the fault of this name then."""
+        path.write_bytes(text * 3)
+        checked = check_archive(open_archive(path, program=PROGRAM))
+        self.assertEqual(0, next(checked).offset)  # the third record isn't read yet
+        with open(path, "r+b") as file:
+            file.seek(2 * len(text))
+            file.write(last)
+            file.truncate()
+        self.assertEqual(len(text), next(checked).offset)
+        found = self.raises(faults.BY_NAME[name], next, checked)
+        self.assertEqual((str(path), 2 * len(text)), (found.file, found.offset))
 
     def test_a_compressed_archive_that_is_changed_meanwhile(self) -> None:
-        path = self.folder / "a.warc.gz"
         text = gzip.compress(record(random.Random(1).randbytes(100_000), OF_ABC[0]), mtime=0)
-        for last, name in ((b"", "ShortHead"), (text[:90_000], "CutMember"), (text[:90_000] + bytes(len(text)), "BadMember"), (b"x" * len(text), "NoMember")):
-            path.write_bytes(text * 3)
-            checked = check_archive(open_archive(path, program=PROGRAM))
-            self.assertEqual(0, next(checked).offset)
-            with open(path, "r+b") as file:
-                file.seek(2 * len(text))
-                file.write(last)
-                file.truncate()
-            self.assertEqual(len(text), next(checked).offset)
-            found = self.raises(faults.BY_NAME[name], next, checked)
-            self.assertEqual((str(path), 2 * len(text)), (found.file, found.offset))
+        for last, name in (
+            (b"", "ShortHead"),
+            (text[:90_000], "CutMember"),
+            (text[:90_000] + bytes(len(text)), "BadMember"),
+            (b"x" * len(text), "NoMember"),
+        ):
+            self.expect_changed(self.folder / "a.warc.gz", text, last, name)
 
 
 if __name__ == "__main__":

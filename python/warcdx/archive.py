@@ -6,7 +6,6 @@ import os
 import re
 import stat
 from collections.abc import Iterator
-from types import TracebackType
 from typing import IO, NamedTuple, Optional, TypeVar
 
 from .errors import Fault, ProgramError
@@ -106,13 +105,19 @@ class Archive:
 
     def streams(self) -> Iterator[RecordStream]:
         """Yields each record to be read in pieces, before the next one is taken. Long ones take little memory so."""
+        return (stream for _, stream in self.listed_streams())
+
+    def listed_streams(self, start: int = 0) -> Iterator[tuple[Listed, RecordStream]]:
+        """Yields what `list` has of each record from an offset on, and the record as `streams` does."""
         for listed in self.list():
+            if listed.offset < start:
+                continue
             text = self._text_at(listed.offset, listed.length, _MOST_STREAMED)
             if text is not None:
-                yield RecordStream(*_parted(text))
+                yield listed, RecordStream(*_parted(text))
                 continue
-            with self.stream(listed.offset, length=listed.length) as stream:
-                yield stream
+            with self._stream_by_program(listed.offset, listed.length) as stream:
+                yield listed, stream
 
     def record(self, offset: int, *, length: Optional[int] = None) -> Record:
         """Returns the record that begins at an offset, in bytes from the start of the archive.
@@ -133,9 +138,7 @@ class Archive:
         write_output(output, *self._get(offset, length))
 
     @contextlib.contextmanager
-    def stream(
-        self, offset: int, *, length: Optional[int] = None, seconds: Optional[float] = None
-    ) -> Iterator[RecordStream]:
+    def stream(self, offset: int, *, length: Optional[int] = None, seconds: Optional[float] = None) -> Iterator[RecordStream]:
         """Opens the record that begins at an offset, as `get` does, to be read in pieces.
 
         It needn't be read to its end. If it is, and the archive is damaged in it, the fault is raised at the end.
@@ -146,6 +149,11 @@ class Archive:
         if text is not None and usual_record(text) is not None:
             yield RecordStream(*_parted(text))
             return
+        with self._stream_by_program(offset, length, seconds) as record:
+            yield record
+
+    @contextlib.contextmanager
+    def _stream_by_program(self, offset: int, length: Optional[int], seconds: Optional[float] = None) -> Iterator[RecordStream]:
         with running(*self._get(offset, length), seconds=seconds) as output:
             record = RecordStream.read(output)
             if record is not None:
@@ -190,9 +198,7 @@ class Archive:
     def __enter__(self: "_Archive") -> "_Archive":
         return self
 
-    def __exit__(
-        self, kind: Optional[type[BaseException]], error: Optional[BaseException], trace: Optional[TracebackType]
-    ) -> None:
+    def __exit__(self, *error: object) -> None:
         pass
 
     def _text_at(self, offset: int, length: Optional[int], most: int) -> Optional[bytes]:
@@ -221,20 +227,8 @@ class Archive:
         """Yields the records from an offset on, of which the program says where they are and what is at fault."""
         if _is_read_once(self.path):
             raise Unreadable(f"{self.path}: a pipe can be read only once, by list, verify or index; save it to a file")
-        try:
-            first = [self._record_by_program(start)]
-        except NoRecord:  # other bytes than a member are there, which have another fault in a list
-            first = []
-        start += len(first)
-        while first:
-            yield first.pop()
-        for listed in self.list():
-            if listed.offset >= start:
-                text = self._text_at(listed.offset, listed.length, MOST)
-                if text is None:
-                    yield self._record_by_program(listed.offset, listed.length)
-                else:
-                    yield Record.read(text, listed.offset, listed.length)
+        for listed, stream in self.listed_streams(start):
+            yield Record(stream.head.fields, b"".join(stream.whole_block()), listed.offset, listed.length)
 
     def _opened(self) -> IO[bytes]:
         try:

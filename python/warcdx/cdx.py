@@ -1,13 +1,12 @@
-"""CDX files of eleven and of nine columns, which are read and written as docs/CDX.md says."""
+"""CDX files of eleven and of nine columns, which are read and written as docs/OTHER_TOOLS.md says."""
 import json
 import re
-import tempfile
 from collections.abc import Iterable, Iterator, Sequence
 from typing import IO, NamedTuple, Optional
 
 from .codings import Unreadable
-from .merging import MOST, merge
-from .program import Path, find_program, operand, running
+from .merging import merged
+from .program import Path
 from .streams import whole
 from .url_keys import MOST_URL, Keyed, keys_of
 
@@ -18,6 +17,7 @@ _MOST_URLS = 1 << 18  # bytes of their URLs, one row aside
 _MOST_HELD = 1 << 20  # bytes of all their values, one row aside
 _MOST_COLUMNS = 64  # of a header
 _USUAL_LETTERS = {11: b"NbamskrMSVg", 9: b"NbamskrVg"}  # of files without a header, by their columns
+_READ = b"bamskSVg"  # the letters of the values of a row
 _TIMESTAMP = re.compile(rb"[0-9]{14}")
 _NUMBER = re.compile(rb"[0-9]{1,19}")
 _NOT_IN_A_COLUMN = re.compile(r"[\x00-\x20\x7f]")
@@ -47,14 +47,8 @@ def write_cdx(indexes: Sequence[Path], output: IO[bytes], program: str) -> None:
     Raises Error as `warcdx merge` fails, after the captures before the fault.
     """
     output = whole(output)
-    if len(indexes) > MOST:
-        with tempfile.TemporaryFile() as merged:
-            merge(indexes, merged, program=program)
-            merged.seek(0)
-            count, is_whole = _write_lines(merged, output)
-    else:
-        with running(find_program(program), "merge", *map(operand, indexes)) as lines:
-            count, is_whole = _write_lines(lines, output)
+    with merged(indexes, program) as lines:
+        count, is_whole = _write_lines(lines, output)
     if not is_whole:
         raise Unreadable("the program has written no line of an index")
     if not count:
@@ -98,20 +92,6 @@ def _column(value: object) -> str:
     if not isinstance(value, str) or not value:
         return "-"
     return _NOT_IN_A_COLUMN.sub(lambda found: f"%{ord(found[0]):02X}", value)
-
-
-class _Columns(NamedTuple):
-    """How many columns a line has, and which of them are read."""
-
-    number_of_columns: int
-    timestamp: int
-    url: int
-    offset: int
-    filename: int
-    mime: Optional[int]
-    status: Optional[int]
-    digest: Optional[int]
-    length: Optional[int]
 
 
 class _Row(NamedTuple):
@@ -167,24 +147,25 @@ def _keyed_lines(rows: list[_Row], program: str) -> Iterator[bytes]:
 
 
 def _rows(file: IO[bytes]) -> Iterator[_Row]:
-    columns: Optional[_Columns] = None
-    number = 0
+    letters, places, number = list[bytes](), list[Optional[int]](), 0
     while line := _line_of(file):
         number += 1
         if len(line) > MOST_LINE:
             raise BadRow(number, f"it has more than {MOST_LINE:,} bytes")
         line = line.removesuffix(b"\n").removesuffix(b"\r")
         if line.startswith(b" CDX ") or number == 1 and line.startswith(b"CDX "):
-            columns = _columns_of(line.lstrip(b" ").split(b" ", _MOST_COLUMNS + 1)[1:], number)
+            letters = line.lstrip(b" ").split(b" ", _MOST_COLUMNS + 1)[1:]
+            places = _places_of(letters, number)
             continue
         count = line.count(b" ") + 1
-        if columns is None:
+        if not places:
             if count not in _USUAL_LETTERS:
                 raise BadRow(number, f"it has {_columns(count)}, and not 11 or 9; a header names other columns")
-            columns = _columns_of([bytes([letter]) for letter in _USUAL_LETTERS[count]], number)
-        if count != columns.number_of_columns:
-            raise BadRow(number, f"it has {_columns(count)}, and not {columns.number_of_columns}")
-        yield _row_of(line.split(b" "), columns, number)
+            letters = [bytes([letter]) for letter in _USUAL_LETTERS[count]]
+            places = _places_of(letters, number)
+        if count != len(letters):
+            raise BadRow(number, f"it has {_columns(count)}, and not {len(letters)}")
+        yield _row_of(line.split(b" "), places, number)
 
 
 def _columns(count: int) -> str:
@@ -199,28 +180,20 @@ def _line_of(file: IO[bytes]) -> bytes:
         raise CannotRead(f"Read: {error.strerror}") from error
 
 
-def _columns_of(letters: list[bytes], number: int) -> _Columns:
-    def find(letter: bytes) -> Optional[int]:
-        return letters.index(letter) if letter in letters else None
-
+def _places_of(letters: list[bytes], number: int) -> list[Optional[int]]:
+    """Returns in which column each value of a row is, in their order, from the letters of a line."""
     if len(letters) > _MOST_COLUMNS:
         raise BadRow(number, f"the header has more than {_MOST_COLUMNS} columns")
-    offset = find(b"V") if b"V" in letters else find(b"v")
-    timestamp, url, filename = find(b"b"), find(b"a"), find(b"g")
-    if timestamp is None or url is None or filename is None or offset is None:
+    named = {letter: letters.index(letter) for letter in letters}
+    named.setdefault(b"V", named.get(b"v", -1))
+    timestamp, url, *others, offset, filename = (named.get(bytes([letter]), -1) for letter in _READ)
+    if min(timestamp, url, offset, filename) < 0:
         raise BadRow(number, "the header hasn't the columns a, b, g, and V or v")
-    others = find(b"m"), find(b"s"), find(b"k"), find(b"S")
-    return _Columns(len(letters), timestamp, url, offset, filename, *others)
+    return [timestamp, url, *(None if place < 0 else place for place in others), offset, filename]
 
 
-def _row_of(values: list[bytes], columns: _Columns, number: int) -> _Row:
-    def value(column: Optional[int]) -> bytes:
-        return b"-" if column is None else values[column]
-
-    row = _Row(
-        number, value(columns.timestamp), value(columns.url), value(columns.mime), value(columns.status),
-        value(columns.digest), value(columns.length), value(columns.offset), value(columns.filename),
-    )  # fmt: skip
+def _row_of(values: list[bytes], places: list[Optional[int]], number: int) -> _Row:
+    row = _Row(number, *(b"-" if place is None else values[place] for place in places))
     if cause := _fault_of(row):
         raise BadRow(number, cause)
     return row

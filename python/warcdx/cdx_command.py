@@ -15,25 +15,21 @@ before the line, and reports the line. The exit status is 0; 1 if a line can't b
 import argparse
 import contextlib
 import functools
-import os
-import pathlib
 import sys
 from collections.abc import Iterator, Mapping, Sequence
 from typing import IO, Optional
 
 from . import __version__
 from .cdx import BadRow, CannotRead, cdxj_lines, write_cdx
-from .command import FAILED, Parser, printable, report, run
+from .command import FAILED, FAULTY, Parser, line_of, printable, report, run, status_of
 from .errors import Error, Fault
-from .faults import CannotFlush, CannotOpen, Input, Memory, Read, Write
+from .faults import CannotOpen
 from .program import find_program
-from .temporary import temporary_folder
+from .states import files_of
+from .temporary import temporary_copy
 
 NAME = "warcdx-cdx"
-FAULTY = 1
 INPUT = "-"
-_PIECE = 1 << 20  # bytes
-_FAILURES = (CannotFlush, CannotOpen, Input, Memory, Read, Write)
 
 
 def read_arguments(arguments: Optional[Sequence[str]]) -> argparse.Namespace:
@@ -51,7 +47,10 @@ def read_arguments(arguments: Optional[Sequence[str]]) -> argparse.Namespace:
 
 def to_cdx(given: argparse.Namespace, output: IO[bytes]) -> int:
     """Writes the captures of indexes. Those that aren't files, such as pipes, are copied first: the program needs files."""
-    files = given.files or [INPUT]
+    try:
+        files = [file for index in given.files or [INPUT] for file in ([index] if index == INPUT else files_of(index))]
+    except CannotOpen as fault:
+        return say(fault)
     with contextlib.ExitStack() as stack:
         try:
             copies = copies_of(files, stack)
@@ -76,40 +75,20 @@ def write_captures(files: Sequence[str], copies: Mapping[str, str], output: IO[b
 def copies_of(files: Sequence[str], stack: contextlib.ExitStack) -> dict[str, str]:
     """Returns the copy of each file that can be read only once. Raises CannotRead, with the name of the file."""
     copies: dict[str, str] = {}
-    folder: Optional[pathlib.Path] = None
-    for file in files:
-        if file in copies:
-            continue
+    for file in dict.fromkeys(files):
         try:
             with opened(file) as source:
                 if file == INPUT or not source.seekable():
-                    folder = folder or stack.enter_context(temporary_folder())
-                    copies[file] = os.fspath(folder / str(len(copies)))
-                    copy_all(source, copies[file])
+                    copies[file] = stack.enter_context(temporary_copy(source))
         except CannotRead as error:
             raise CannotRead(f"{printable(file)}: {error}") from error
     return copies
 
 
-def copy_all(source: IO[bytes], path: str) -> None:
-    with open(path, "wb") as copy:
-        while piece := piece_of(source):
-            copy.write(piece)
-
-
-def piece_of(source: IO[bytes]) -> bytes:
-    try:
-        return source.read(_PIECE)
-    except OSError as error:
-        raise CannotRead(f"Read: {error.strerror}") from error
-
-
 def say(fault: Fault) -> int:
     """Reports a fault of an index, and returns the exit status."""
-    file = "" if fault.file is None else f"{printable(fault.file)}: "
-    place = "" if fault.offset is None else f" {fault.offset}"
-    report(NAME, f"{file}{'cannot open' if isinstance(fault, CannotOpen) else fault.name}{place}")
-    return FAILED if isinstance(fault, _FAILURES) else FAULTY
+    report(NAME, line_of(fault))
+    return status_of(fault)
 
 
 def from_cdx(given: argparse.Namespace, output: IO[bytes]) -> int:

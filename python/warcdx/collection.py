@@ -2,7 +2,6 @@
 import contextlib
 import os
 from collections.abc import Iterator, Mapping, Sequence
-from types import TracebackType
 from typing import Any, Optional, Union
 
 from .archive import Archive, open_archive
@@ -24,7 +23,8 @@ class Collection:
     paths. Without it, they are in the folder of the first index. Of several folders, the first that has a file of the name counts. In a
     folder, a file name in an index may name a file in a folder below, as in `2016/a.warc.gz`. One that begins
     with `/`, or has an empty part, `.` or `..` between its slashes, names no archive, so that no name leads out
-    of the folder. Symbolic links in the folder are followed.
+    of the folder. Symbolic links in the folder are followed. With `links`, a list of folders, those that lead out of
+    the folder have to lead into one of these.
 
         with Collection("all.cdxj", "archives") as collection:
             for record in collection.records("example.com/*", since=2016):
@@ -38,18 +38,18 @@ class Collection:
         indexes: Union[Path, Sequence[Path]],
         archives: Optional[Archives] = None,
         *,
+        links: Optional[Sequence[Path]] = None,
         program: str = "warcdx",
         processes: int = 1,
     ) -> None:
+        self._links = links
         self.index = Index(indexes, program=program, processes=processes)
         if archives is None:
             first = indexes if isinstance(indexes, (str, os.PathLike)) else indexes[0]
             archives = os.path.dirname(os.path.abspath(first))
         if isinstance(archives, (str, os.PathLike)):
             archives = [archives]
-        self._archives: Union[tuple[Path, ...], Mapping[str, Path]] = (
-            archives if isinstance(archives, Mapping) else tuple(archives)
-        )
+        self._archives: Union[tuple[Path, ...], Mapping[str, Path]] = archives if isinstance(archives, Mapping) else tuple(archives)
         if not self._archives:
             raise ValueError("no folder is given")
         self._program = find_program(program)
@@ -68,9 +68,7 @@ class Collection:
         **parameters: Any,
     ) -> Iterator[Capture]:
         """Yields the captures that a query selects, as `Index.captures` does: all of them without an argument."""
-        return self.index.captures(
-            url, match=match, since=since, until=until, filter=filter, limit=limit, query=query, **parameters
-        )
+        return self.index.captures(url, match=match, since=since, until=until, filter=filter, limit=limit, query=query, **parameters)
 
     def records(
         self,
@@ -85,9 +83,7 @@ class Collection:
         **parameters: Any,
     ) -> Iterator[Record]:
         """Yields the record of each capture that a query selects. Raises as `record` does."""
-        captures = self.captures(
-            url, match=match, since=since, until=until, filter=filter, limit=limit, query=query, **parameters
-        )
+        captures = self.captures(url, match=match, since=since, until=until, filter=filter, limit=limit, query=query, **parameters)
         return map(self.record, captures)
 
     def record(self, capture: Capture) -> Record:
@@ -125,8 +121,10 @@ class Collection:
         path = _path_of(name)
         if path is None:
             raise NoArchive(name)
-        found = [os.path.join(os.fspath(folder), path) for folder in self._archives]
-        return next((each for each in found if os.path.exists(each)), found[0])
+        found = find_archive(self._archives, name, self._links)
+        if found is None and self._links is not None:
+            raise NoArchive(name)
+        return found or os.path.join(os.fspath(self._archives[0]), path)
 
     def close(self) -> None:
         """Ends the processes of the index."""
@@ -135,10 +133,28 @@ class Collection:
     def __enter__(self) -> "Collection":
         return self
 
-    def __exit__(
-        self, kind: Optional[type[BaseException]], error: Optional[BaseException], trace: Optional[TracebackType]
-    ) -> None:
+    def __exit__(self, *error: object) -> None:
         self.close()
+
+
+def find_archive(folders: Sequence[Path], name: str, links: Optional[Sequence[Path]] = None) -> Optional[str]:
+    """Returns the path of the file with a name in an index, in the first of some folders that has it, or None.
+
+    With `links` it is in that folder or in one of these, wherever symbolic links lead.
+    """
+    path = _path_of(name)
+    for folder in folders if path is not None else ():
+        found = os.path.join(os.fspath(folder), path or "")
+        if os.path.exists(found) and (links is None or _is_in(found, (folder, *links))):
+            return found
+    return None
+
+
+def _is_in(path: str, folders: Sequence[Path]) -> bool:
+    """Returns whether a file is in one of some folders, without links in the way."""
+    real = os.path.realpath(path)
+    roots = [os.path.realpath(os.fspath(folder)) for folder in folders]
+    return any(os.path.commonpath((real, root)) == root for root in roots)
 
 
 def _path_of(name: str) -> Optional[str]:

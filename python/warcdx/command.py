@@ -2,9 +2,8 @@
 import argparse
 import contextlib
 import io
-import json
 import os
-import pathlib
+import re
 import sys
 import threading
 from collections.abc import Callable, Sequence
@@ -12,11 +11,18 @@ from typing import BinaryIO, NoReturn, Optional
 
 from .ending import Ended as Ended
 from .ending import catch_signals, end_by
+from .errors import Error, Fault
+from .faults import CannotFlush, CannotOpen, Input, Memory, Read, Write
 from .streams import OutputError as OutputError
-from .streams import open_closed_streams, replace_standard_streams, write_error
+from .streams import is_text, message, open_closed_streams, replace_standard_streams, write_error
+from .streams import printable as printable
+from .streams import report as report
 
+FAULTY = 1  # the exit status if what is read is at fault
 USAGE = 2  # the exit status after a usage error
 FAILED = 3  # the exit status if a file, memory, the output or a program failed
+FAILURES = (CannotFlush, CannotOpen, Input, Memory, Read, Write)  # the faults that are no faults of what is read
+_NUMBER = re.compile("[0-9]{1,4}")
 NO_THREAD = "can't start new thread"  # the message of a RuntimeError if there is no memory for a thread
 
 
@@ -24,13 +30,7 @@ class Parser(argparse.ArgumentParser):
     """Arguments of a command, whose description has its usage. A usage error is one line."""
 
     def __init__(self, prog: str, description: Optional[str] = None) -> None:
-        super().__init__(
-            prog,
-            argparse.SUPPRESS,
-            description,
-            formatter_class=argparse.RawDescriptionHelpFormatter,
-            allow_abbrev=False,
-        )
+        super().__init__(prog, argparse.SUPPRESS, description, formatter_class=argparse.RawDescriptionHelpFormatter, allow_abbrev=False)
 
     def parse(self, arguments: Optional[Sequence[str]] = None) -> argparse.Namespace:
         """Returns the arguments of the command. Those that aren't UTF-8 are usage errors, as in the program."""
@@ -38,13 +38,24 @@ class Parser(argparse.ArgumentParser):
             use_utf8()
         words = sys.argv[1:] if arguments is None else arguments
         for number, word in enumerate(words, 1):
-            if not _is_text(word):
+            if not is_text(word):
                 self.error(f"argument {number} isn't UTF-8")
         return self.parse_args(words)
 
     def error(self, message: str) -> NoReturn:
         report(self.prog, f"error: {printable(message)}")
         sys.exit(USAGE)
+
+
+def number_from(least: int, most: int) -> Callable[[str], int]:
+    """Returns what reads an argument that is a number in these bounds."""
+
+    def number_of(text: str) -> int:
+        if not _NUMBER.fullmatch(text) or not least <= int(text) <= most:
+            raise argparse.ArgumentTypeError(f"a number from {least} to {most}")
+        return int(text)
+
+    return number_of
 
 
 def use_utf8() -> None:
@@ -54,16 +65,9 @@ def use_utf8() -> None:
     """
     if sys.getfilesystemencoding() == "utf-8" or not sys.executable or sys.argv[0] in ("", "-"):
         return
-    words = pathlib.Path("/proc/self/cmdline").read_bytes().split(b"\0")[1:-1]
+    with open("/proc/self/cmdline", "rb") as file:
+        words = file.read().split(b"\0")[1:-1]
     os.execv(sys.executable, (os.fsencode(sys.executable), b"-X", b"utf8", *words))
-
-
-def _is_text(word: str) -> bool:
-    try:
-        word.encode()
-    except UnicodeEncodeError:
-        return False
-    return True
 
 
 def run(name: str, work: Callable[[BinaryIO], int]) -> int:
@@ -74,14 +78,14 @@ def run(name: str, work: Callable[[BinaryIO], int]) -> int:
     used. INT, TERM and HUP end the process as they do by default, after what `work` has made is removed and its
     programs are ended.
     """
-    said = no_memory = _message(name, "Memory")
+    said = no_memory = message(name, "Memory")
     number: Optional[int] = None
     try:
         return _run_on_standard_streams(work)
     except Ended as ended:
         number = ended.number
     except (OSError, RuntimeError) as error:
-        said = _message(name, _failure_of(error))
+        said = message(name, _failure_of(error))
     except (MemoryError, SystemError):  # SystemError: Python's own code had no memory for an exception
         said = no_memory
     # What the exception held is free, so that there is memory to say so. And each `with` block that a signal has kept
@@ -144,15 +148,19 @@ def reason_of(error: Exception) -> str:
     return f"{printable(os.fsdecode(error.filename))}: {error.strerror}"
 
 
-def report(name: str, text: str) -> bool:
-    """Writes a line to standard error, if that is possible, and returns whether it was."""
-    return write_error(_message(name, text))
+def line_of(fault: Fault) -> str:
+    """Returns what is said of a fault: its file and its offset, if they are known, and the cause, as the program says it."""
+    file = "" if fault.file is None else f"{printable(fault.file)}: "
+    place = "" if fault.offset is None else f" {fault.offset}"
+    return f"{file}{'cannot open' if isinstance(fault, CannotOpen) else fault.name}{place}"
 
 
-def _message(name: str, text: str) -> bytes:
-    return f"{name}: {text}\n".encode(errors="surrogateescape")
+def failure(name: str, error: Error) -> int:
+    """Reports an exception that ends a command on one line, and returns the exit status."""
+    report(name, printable(str(error).partition("\n")[0]))
+    return FAILED
 
 
-def printable(text: str) -> str:
-    """Returns a text as it is if a terminal shows it as one line and as it is, and else as a JSON string."""
-    return text if text.isprintable() else json.dumps(text)
+def status_of(fault: Fault) -> int:
+    """Returns the exit status after a fault."""
+    return FAILED if isinstance(fault, FAILURES) else FAULTY

@@ -1,4 +1,5 @@
 """The digests of WARC heads: an algorithm, and a value in base 32 (RFC 4648) or in hexadecimal digits."""
+import base64
 import hashlib
 import re
 from typing import TYPE_CHECKING, NamedTuple, Optional
@@ -9,7 +10,6 @@ if TYPE_CHECKING:
 _SIZES = {"md5": 16, "sha1": 20, "sha256": 32, "sha512": 64}  # bytes
 _HEXADECIMAL = re.compile("[0-9a-f]+")
 _BASE_32 = re.compile("[a-z2-7]+(=*)")
-_DIGITS = str.maketrans("abcdefghijklmnopqrstuvwxyz234567", "0123456789abcdefghijklmnopqrstuv")  # as `int` reads them
 
 
 class Digest(NamedTuple):
@@ -44,8 +44,5 @@ class Digest(NamedTuple):
 
     def is_of(self, computed: "_Hash") -> bool:
         """Returns whether this is the digest that was computed."""
-        size = computed.digest_size
-        if len(self.value) == 2 * size:
-            return self.value == computed.hexdigest()
-        padding = 5 * len(self.value) - 8 * size  # bits, which are 0
-        return int(self.value.translate(_DIGITS), 32) == int.from_bytes(computed.digest(), "big") << padding
+        base_32 = base64.b32encode(computed.digest()).decode().rstrip("=").lower()
+        return self.value in (computed.hexdigest(), base_32)

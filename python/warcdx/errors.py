@@ -87,9 +87,7 @@ class Fault(Error):
     given, from 0, if a reply has named it. Each is None if the program doesn't name it.
     """
 
-    def __init__(
-        self, name: str, file: Optional[str] = None, offset: Optional[int] = None, number: Optional[int] = None
-    ) -> None:
+    def __init__(self, name: str, file: Optional[str] = None, offset: Optional[int] = None, number: Optional[int] = None) -> None:
         super().__init__(name, file, offset, number)
         self.name = name
         self.file = file

@@ -163,37 +163,4 @@ class SeveralRecords(Fault):
     """The member holds more than one record."""
 
 
-BY_NAME: dict[str, type[Fault]] = {
-    each.__name__: each
-    for each in (
-        Version,
-        ShortHead,
-        HeadTooLong,
-        FieldLine,
-        Missing,
-        Repeated,
-        BadLength,
-        BadDate,
-        TooFar,
-        ShortBlock,
-        Closing,
-        KeyTooLong,
-        LineTooLong,
-        NoRecord,
-        BadName,
-        DuplicateName,
-        BadLine,
-        OutOfOrder,
-        TooManySources,
-        CannotOpen,
-        Read,
-        Input,
-        Write,
-        CannotFlush,
-        Memory,
-        NoMember,
-        BadMember,
-        CutMember,
-        SeveralRecords,
-    )
-}
+BY_NAME: dict[str, type[Fault]] = {kind.__name__: kind for kind in Fault.__subclasses__()}

@@ -35,10 +35,10 @@ from typing import IO, BinaryIO, Optional
 
 from . import __version__
 from .collection import Collection
-from .command import FAILED, Parser, printable, report, run
+from .command import FAILED, FAILURES, FAULTY, Parser, failure, line_of, printable, report, run, status_of
 from .ending import blocked
 from .errors import Error, Fault, NoArchive, Refused
-from .faults import CannotFlush, CannotOpen, Input, Memory, Read, Write
+from .faults import CannotOpen
 from .fetching import moment_of, nearest, opened_page
 from .query import Capture
 from .record import RecordStream, Unreadable
@@ -46,8 +46,6 @@ from .record import RecordStream, Unreadable
 NAME = "warcdx-fetch"
 ARCHIVE = ".warc.gz"
 STANDARD = "-"  # the name of standard output
-MISSED = 1  # the exit status if there is no such capture, or one can't be read
-_FAILURES = (CannotFlush, Input, Memory, Read, Write)
 _MOST_NAME = 150  # characters of a file's name that are of its URL
 _UNSAFE = re.compile("[^A-Za-z0-9._-]+")
 _ENDING = re.compile(r"\.[A-Za-z0-9]{1,8}")
@@ -120,7 +118,7 @@ def fetch_page(given: argparse.Namespace, collection: Collection, output: Binary
 def say_there_is_none(given: argparse.Namespace) -> int:
     hint = "; --all takes a URL with *" if "*" in given.query and not given.all else ""
     report(NAME, f"{printable(given.query)}: no index has a capture of it{hint}")
-    return MISSED
+    return FAULTY
 
 
 def captures_of(collection: Collection, query: str) -> Iterator[Capture]:
@@ -179,20 +177,17 @@ def write_member(record: RecordStream, file: IO[bytes]) -> None:
 
 def say(capture: Capture, error: Error) -> int:
     """Reports a capture that can't be read, and returns the exit status. Raises the error if it is none of the archive."""
-    if isinstance(error, _FAILURES) or not isinstance(error, (Fault, NoArchive, Unreadable)):
+    is_failure = isinstance(error, FAILURES) and not isinstance(error, CannotOpen)
+    if is_failure or not isinstance(error, (Fault, NoArchive, Unreadable)):
         raise error
     report(NAME, f"{capture.timestamp} {printable(capture.original)}: {reason_of(error)}")
-    return FAILED if isinstance(error, CannotOpen) else MISSED
+    return FAILED if isinstance(error, CannotOpen) else FAULTY
 
 
 def reason_of(error: Error) -> str:
     if not isinstance(error, Fault):
         return printable(str(error))
-    file = "" if error.file is None else f"{printable(error.file)}: "
-    place = "" if error.offset is None else f" {error.offset}"
-    if isinstance(error, CannotOpen):
-        return f"{file}cannot open" + (f" ({error.reason})" if error.reason else "")
-    return f"{file}{error.name}{place}"
+    return line_of(error) + (f" ({error.reason})" if isinstance(error, CannotOpen) and error.reason else "")
 
 
 def name_of(capture: Capture, is_record: bool) -> str:
@@ -272,16 +267,15 @@ def work(arguments: Optional[Sequence[str]], output: BinaryIO) -> int:
     except Refused as refused:
         place = "" if refused.parameter is None else f" in {printable(refused.parameter)}"
         report(NAME, f"{printable(given.query)}: the query is refused: {refused.name}{place} (see docs/QUERY.md)")
-        return MISSED
+        return FAULTY
     except Fault as fault:
         report(NAME, reason_of(fault))
-        return FAILED if isinstance(fault, (CannotOpen, *_FAILURES)) else MISSED
+        return status_of(fault)
     except (NoArchive, Unreadable) as error:
         report(NAME, f"{printable(given.query)}: {printable(str(error))}")
-        return MISSED
+        return FAULTY
     except Error as error:
-        report(NAME, printable(str(error).partition("\n")[0]))
-        return FAILED
+        return failure(NAME, error)
 
 
 def main(arguments: Optional[Sequence[str]] = None) -> int:

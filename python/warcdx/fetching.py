@@ -2,8 +2,9 @@
 import calendar
 import contextlib
 import datetime
+import functools
 import re
-from collections.abc import Iterable, Iterator
+from collections.abc import Callable, Iterable, Iterator
 from typing import Optional
 from urllib.parse import quote_plus
 
@@ -14,6 +15,8 @@ from .record import Head, RecordStream, without_brackets
 from .stamps import stamp_of
 
 REVISIT = "warc/revisit"
+Ask = Callable[[str], Iterable[Capture]]  # gives the first capture that a query selects
+_NOTHING = "3I42H3S6NNFQ2MSVX7XZKYAYSCX5QBYJ"  # the digest of no bytes
 _NOT_DIGITS = re.compile("[^0-9]")
 _SHA1 = re.compile("sha1:", re.IGNORECASE)
 
@@ -53,23 +56,36 @@ def nearest(captures: Iterable[Capture], moment: Optional[datetime.datetime] = N
     return best
 
 
-def original_of(collection: Collection, head: Head) -> Optional[Capture]:
+def is_unmodified(head: Head) -> bool:
+    """Returns whether a server has said that nothing was changed (ISO 28500:2017, 6.7.3)."""
+    profile = (head.field("WARC-Profile") or "").rstrip("/>")
+    return head.kind == "revisit" and profile.endswith("server-not-modified")
+
+
+def url_of_original(head: Head) -> str:
+    """Returns the URL that the head of a revisit refers to, or else its own, or no text."""
+    return without_brackets(head.field("WARC-Refers-To-Target-URI") or "") or head.url or ""
+
+
+def original_of(ask: Ask, head: Head) -> Optional[Capture]:
     """Returns the capture whose payload a revisit stands for, by the head of its record, or None if no index has it.
 
     It is one of the URL that the head refers to, or else of its own, with the digest and the time if the head has them, or else with
-    the digest alone.
+    the digest alone. One that was not modified may have the digest of no bytes: then it is that of the time.
     """
-    url = without_brackets(head.field("WARC-Refers-To-Target-URI") or "") or head.url
+    url = url_of_original(head)
     digest = _SHA1.sub("", head.field("WARC-Payload-Digest") or "", count=1)
+    if is_unmodified(head) and digest == _NOTHING:
+        digest = ""
     time = _NOT_DIGITS.sub("", head.field("WARC-Refers-To-Date") or "")[:14]
     if not url:
         return None
     at = f"&from={time}&to={time}" if len(time) == 14 else ""
     same = f"&is=digest:{quote_plus(digest, errors='surrogateescape')}" if digest else ""
-    asked = f"url={quote_plus(url, errors='surrogateescape')}&matchType=exact&isnot=mimetype:{REVISIT}&limit=1"
+    asked = f"url={quote_plus(url, errors='surrogateescape')}&matchType=exact&isnot=mimetype:{REVISIT}"
     with contextlib.suppress(Refused):  # as for a URL that is none
         for conditions in filter(None, dict.fromkeys((at and at + same, same))):
-            for capture in collection.index.captures(asked + conditions):
+            for capture in ask(asked + conditions):
                 return capture
     return None
 
@@ -85,6 +101,6 @@ def opened_page(collection: Collection, capture: Capture) -> Iterator[Optional[R
         if record.head.kind != "revisit":
             yield record
             return
-        original = original_of(collection, record.head)
+        original = original_of(functools.partial(collection.index.captures, limit=1), record.head)
         page = None if original is None else stack.enter_context(collection.stream(original))
         yield page if page and page.head.kind != "revisit" else None  # indexes may name revisits otherwise

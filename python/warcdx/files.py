@@ -7,7 +7,7 @@ import stat
 from collections.abc import Iterable, Iterator
 from typing import IO, Optional, Union
 
-Path = Union[str, "os.PathLike[str]"]
+Path = Union[str, os.PathLike[str]]
 _NEW = os.O_WRONLY | os.O_CREAT | os.O_EXCL | os.O_NOFOLLOW | os.O_CLOEXEC
 
 

@@ -116,6 +116,7 @@ class HeadReader:
     def __init__(self) -> None:
         self.text: Optional[bytes] = None  # of the head, without the empty line at its end, if the block has one
         self.is_read = False
+        self.size = 0  # bytes of the block before the body
         self.is_endless = False  # whether a head begins and doesn't end: within HEAD_LIMIT bytes, or in the block
         self._held = bytearray()
         self._start = 0  # where the head begins
@@ -143,6 +144,7 @@ class HeadReader:
             return held
         self.is_endless = not end
         self.text = held[self._start : end.start()] if end else None
+        self.size = end.end() if end else len(held)
         return held[end.end() :] if end else b""
 
 
@@ -165,6 +167,10 @@ class Message:
     @functools.cached_property
     def head(self) -> Optional[HttpHead]:
         return None if self._head.text is None else HttpHead.of(self._head.text)
+
+    def stored_length(self, block: int) -> Optional[int]:
+        """Returns the bytes of `stored_payload` in a block of `block` bytes, or None if it has a transfer coding."""
+        return None if self._transfer_codings else block - self._head.size
 
     @property
     def stored_otherwise(self) -> tuple[str, ...]:

@@ -1,8 +1,9 @@
 """Queries over indexes, by runs of `warcdx serve` that are kept."""
+import contextlib
 import os
 import queue
+import weakref
 from collections.abc import Callable, Iterator, Sequence
-from types import TracebackType
 from typing import Any, Optional, Union
 
 from .asked import Asked
@@ -11,23 +12,11 @@ from .faults import cannot_open
 from .fields import FIELDS
 from .parameters import parameter_of
 from .program import Path, find_program, operand
-from .query import (
-    MOST_LIMIT,
-    Capture,
-    Page,
-    Query,
-    RowPage,
-    Texts,
-    Value,
-    fits,
-    length_of,
-    one_line,
-    rows_query,
-    split_rows,
-)
+from .query import MOST_LIMIT, Capture, Page, Query, RowPage, Texts, Value, fits, length_of, one_line, rows_query, split_rows
 from .reported import refused
-from .serve import Serve
+from .serve import Files, Serve
 from .stamps import Moment
+from .states import runs_of
 
 PAGE_SIZE = 5000  # captures that an iterator holds at a time
 _VALUES: dict[str, Callable[[str], object]] = {"length": length_of, "offset": int}
@@ -35,6 +24,9 @@ _VALUES: dict[str, Callable[[str], object]] = {"length": length_of, "offset": in
 
 class Index:
     """One or more indexes, which are queried as one. It iterates over all captures.
+
+    Each is a file, or a folder of runs as warcdx-update keeps it. The runs of a folder are those of the moment at which
+    the Index is opened, and stay open until it is closed. So it answers from them also after updates.
 
         with Index("all.cdxj") as index:
             for capture in index.captures("*.example.com", since=2016, filter="statuscode:200"):
@@ -83,20 +75,19 @@ class Index:
             paths = [paths]
         if not paths:
             raise ValueError("no index is given")
-        names = tuple(operand(path) for path in paths)
         found = find_program(program)
-        for name in names:
-            _check_that_it_opens(name)
+        self._files = _open_files(paths)
+        self._close_files = weakref.finalize(self, _close, self._files.descriptors)
         self.seconds = seconds
         self.most = most
-        self._names = names
+        self.waits: Callable[[], None] = lambda: None  # is called while a reply is waited for, if `seconds` is given
         self._processes = processes
         self._is_closed = False
         # The last one that was used is used next, so that no more are started than are needed. After
         # the end it has None in their place.
         self._idle: queue.LifoQueue[Optional[Serve]] = queue.LifoQueue()
         for _ in range(processes):
-            self._idle.put(Serve(found, names))
+            self._idle.put(Serve(found, self._files))
 
     def captures(
         self,
@@ -248,7 +239,7 @@ class Index:
             yield from serve.stream(encoded, asked.has("output", "json"), self.seconds)
 
     def __repr__(self) -> str:
-        return f"Index({self._names!r:.200})"
+        return f"Index({self._files.names!r:.200})"
 
     def close(self) -> None:
         """Ends the processes, after the queries that are being answered. A second call does nothing."""
@@ -258,13 +249,12 @@ class Index:
                 if serve is not None:
                     serve.end()
                 self._idle.put(None)
+            self._close_files()
 
     def __enter__(self) -> "Index":
         return self
 
-    def __exit__(
-        self, kind: Optional[type[BaseException]], error: Optional[BaseException], trace: Optional[TracebackType]
-    ) -> None:
+    def __exit__(self, *error: object) -> None:
         self.close()
 
     def _row_pages(self, asked: Asked, fields: Sequence[str], size: int) -> Iterator[RowPage]:
@@ -297,34 +287,19 @@ class Index:
         with self._turn(asked) as serve:
             return split_rows(serve.rows(asked.encoded(), self.seconds, self.most))
 
-    def _turn(self, query: Query) -> "_Turn":
-        return _Turn(self._idle, query)
-
-
-class _Turn:
-    """A block in which a process that was idle answers a query. A refusal names its parameter.
-
-    Such a block begins and ends for each query, and a class needs less time for that than a generator.
-    """
-
-    def __init__(self, idle: "queue.LifoQueue[Optional[Serve]]", query: Query) -> None:
-        self._idle = idle
-        self._query = query
-        self._serve: Optional[Serve] = None
-
-    def __enter__(self) -> Serve:
-        self._serve = serve = self._idle.get()
-        if serve is None:
-            self._idle.put(None)
-            raise ValueError("the Index is closed")
-        return serve
-
-    def __exit__(
-        self, kind: Optional[type[BaseException]], error: Optional[BaseException], trace: Optional[TracebackType]
-    ) -> None:
-        self._idle.put(self._serve)
-        if isinstance(error, Refused):
-            raise refused(error.name, parameter_of(error.name, self._query)) from None
+    @contextlib.contextmanager
+    def _turn(self, query: Query) -> Iterator[Serve]:
+        """Yields a process that was idle, to answer a query. A refusal names its parameter."""
+        serve = self._idle.get()
+        try:
+            if serve is None:
+                raise ValueError("the Index is closed")
+            serve.waits = self.waits
+            yield serve
+        except Refused as error:
+            raise refused(error.name, parameter_of(error.name, query)) from None
+        finally:
+            self._idle.put(serve)
 
 
 def _fields_of(fields: Union[str, Sequence[str]]) -> tuple[str, ...]:
@@ -332,8 +307,36 @@ def _fields_of(fields: Union[str, Sequence[str]]) -> tuple[str, ...]:
     return tuple(fields.split(",") if isinstance(fields, str) else fields)
 
 
-def _check_that_it_opens(path: str) -> None:
+def _open_files(indexes: Sequence[Path]) -> Files:
+    """Opens the files of indexes. Those of a folder stay open, because updates remove them. Raises `faults.CannotOpen`."""
+    names: list[str] = []
+    operands: list[str] = []
+    descriptors: list[int] = []
     try:
-        os.close(os.open(path, os.O_RDONLY | os.O_NONBLOCK | os.O_CLOEXEC))
+        for index in indexes:
+            is_folder = os.path.isdir(index)
+            for path in runs_of(index) if is_folder else [os.fspath(index)]:
+                names.append(operand(path))
+                descriptor = _open(names[-1])
+                if is_folder:
+                    descriptors.append(descriptor)
+                    operands.append(f"/dev/fd/{descriptor}")
+                else:
+                    os.close(descriptor)
+                    operands.append(names[-1])
+    except BaseException:
+        _close(descriptors)
+        raise
+    return Files(tuple(names), tuple(operands), tuple(descriptors))
+
+
+def _open(path: str) -> int:
+    try:
+        return os.open(path, os.O_RDONLY | os.O_NONBLOCK | os.O_CLOEXEC)
     except (OSError, ValueError) as error:  # ValueError: such as a path with a NUL
         raise cannot_open(path, getattr(error, "errno", None)) from error
+
+
+def _close(descriptors: Sequence[int]) -> None:
+    for descriptor in descriptors:
+        os.close(descriptor)

@@ -1,27 +1,32 @@
 """Merges any number of indexes by `warcdx merge`."""
-import pathlib
-from collections.abc import Sequence
+import contextlib
+import shutil
+from collections.abc import Iterator, Sequence
 from typing import IO
 
-from .program import Path, find_program, operand, write_output
+from .program import Path, find_program, operand, running
+from .streams import whole
 from .temporary import temporary_folder
 
 MOST = 1000  # indexes that are merged at a time: the program takes 1,024, and many systems as many open files
 
 
+@contextlib.contextmanager
+def merged(indexes: Sequence[Path], program: str = "warcdx") -> Iterator[IO[bytes]]:
+    """Yields the lines of several indexes as those of one. More than 1,000 are merged in groups first, in temporary files."""
+    with contextlib.ExitStack() as stack:
+        while len(indexes) > MOST:
+            folder = stack.enter_context(temporary_folder())
+            groups = [indexes[start : start + MOST] for start in range(0, len(indexes), MOST)]
+            indexes = [folder / str(number) for number in range(len(groups))]
+            for path, group in zip(indexes, groups):
+                with open(path, "wb") as output:
+                    merge(group, output, program=program)
+        yield stack.enter_context(running(find_program(program), "merge", *map(operand, indexes)))
+
+
 def merge(indexes: Sequence[Path], output: IO[bytes], *, program: str = "warcdx") -> None:
-    """Writes one index of the lines of several. More than 1,000 are merged in groups first, in temporary files."""
-    if len(indexes) <= MOST:
-        if indexes:
-            write_output(output, find_program(program), "merge", *map(operand, indexes))
-        return
-    with temporary_folder() as folder:
-        starts = range(0, len(indexes), MOST)
-        groups = [_merge_group(indexes[start : start + MOST], folder / str(start), program) for start in starts]
-        merge(groups, output, program=program)
-
-
-def _merge_group(indexes: Sequence[Path], path: pathlib.Path, program: str) -> pathlib.Path:
-    with open(path, "wb") as group:
-        merge(indexes, group, program=program)
-    return path
+    """Writes one index of the lines of several."""
+    if indexes:
+        with merged(indexes, program) as lines:
+            shutil.copyfileobj(lines, whole(output))

@@ -8,9 +8,7 @@ from .fields import FIELDS
 from .query import Query
 
 _REPEATABLE = ("filter", "is", "isnot", "has", "hasnot")
-_ONCE = (
-    "url", "key", "matchType", "from", "to", "limit", "resumeKey", "showResumeKey", "fl", "output", "collapse"
-)  # fmt: skip
+_ONCE = ("url", "key", "matchType", "from", "to", "limit", "resumeKey", "showResumeKey", "fl", "output", "collapse")
 NAMES = frozenset(_ONCE + _REPEATABLE)
 # The parameter of each cause that only one can have.
 _ONLY = {

@@ -15,7 +15,7 @@ from collections.abc import Callable, Iterator
 from typing import IO, Any, Optional, Union
 
 from .ending import blocked
-from .errors import NO_STATUS, Error, Fault, ProgramError, ProgramMissing, ProgramTooOld, ReplyTooLate
+from .errors import NO_STATUS, Error, ProgramError, ProgramMissing, ProgramTooOld, ReplyTooLate
 from .reported import error_of
 from .streams import whole
 
@@ -23,7 +23,6 @@ Path = Union[str, os.PathLike[str]]
 
 PACKED = "warcdx-gz"  # the program that reads compressed archives too
 LEAST_VERSION = (0, 1, 0)
-_ROOM = 1 << 16  # bytes, more than the block of a file that the program has begun
 _PIECE = 1 << 20  # bytes of an output
 _SCARCE = (errno.EMFILE, errno.ENFILE, errno.EAGAIN)  # too many files or processes
 _PAUSE = 0.01  # seconds between two looks at a program that may end
@@ -67,9 +66,7 @@ def packed_program_of(path: str) -> str:
 def check_version(path: str) -> str:
     """Returns which of the programs a file is. Raises ProgramMissing or ProgramTooOld."""
     try:
-        done = subprocess.run(
-            (path, "--help"), stdin=subprocess.DEVNULL, stdout=subprocess.PIPE, stderr=subprocess.DEVNULL
-        )
+        done = subprocess.run((path, "--help"), stdin=subprocess.DEVNULL, stdout=subprocess.PIPE, stderr=subprocess.DEVNULL)
     except OSError as error:
         raise _not_started(path, error) from error
     found = _HELP.match(done.stdout)
@@ -144,16 +141,16 @@ def start(
     command: tuple[str, ...],
     said: IO[bytes],
     stdin: Optional[int],
-    stdout: Union[int, IO[bytes]] = subprocess.PIPE,
     before: Optional[Callable[[], None]] = None,
+    descriptors: tuple[int, ...] = (),
 ) -> Process:
-    """Starts the program, whose standard error goes to the file `said`.
+    """Starts the program, whose standard output is a pipe, and whose standard error goes to the file `said`. It has these descriptors of this process too.
 
     When this process ends, however it does, the program finds its input at the end or its output closed, and ends
     too. `before` is called in the new process. It makes a start slow if this process has much memory.
     """
     try:
-        return Process(command, stdin=stdin, stdout=stdout, stderr=said, preexec_fn=before)
+        return Process(command, stdin=stdin, stdout=subprocess.PIPE, stderr=said, preexec_fn=before, pass_fds=descriptors)
     except OSError as error:
         raise _not_started(command[0], error) from error
     except subprocess.SubprocessError as error:  # the new process had no memory to do what it does first
@@ -162,27 +159,17 @@ def start(
 
 @contextlib.contextmanager
 def started(
-    command: tuple[str, ...],
-    said: IO[bytes],
-    stdin: Optional[int],
-    stdout: Union[int, IO[bytes]] = subprocess.PIPE,
-    before: Optional[Callable[[], None]] = None,
+    command: tuple[str, ...], said: IO[bytes], stdin: Optional[int], before: Optional[Callable[[], None]] = None
 ) -> Iterator[Process]:
     """Starts the program as `start` does, and ends it at the end of the block, also if a signal ends the command."""
-    process = start(command, said, stdin, stdout, before)
+    process = start(command, said, stdin, before)
     try:
         yield process
     finally:
-        _end(process)
-
-
-def _end(process: Process) -> None:
-    with blocked():
-        process.kill()
-        process.wait()
-        for pipe in (process.stdin, process.stdout):
-            if pipe is not None:
-                close(pipe)
+        with blocked():
+            process.kill()
+            process.wait()
+            close(process.stdin, process.stdout)
 
 
 def memory_file() -> IO[bytes]:
@@ -190,10 +177,12 @@ def memory_file() -> IO[bytes]:
     return open(os.memfd_create("warcdx"), "w+b")
 
 
-def close(pipe: IO[bytes]) -> None:
-    """Closes a pipe to or from a program, which may have ended."""
-    with contextlib.suppress(BrokenPipeError):
-        pipe.close()
+def close(*files: Optional[IO[bytes]]) -> None:
+    """Closes files, of which some may be pipes to a program that has ended."""
+    for file in files:
+        if file is not None:
+            with contextlib.suppress(BrokenPipeError):
+                file.close()
 
 
 def end_of(process: Process, said: IO[bytes]) -> Error:
@@ -202,21 +191,6 @@ def end_of(process: Process, said: IO[bytes]) -> Error:
     said.seek(0)
     name = _names.get(process.path, "warcdx")
     return error_of(status, os.fsdecode(said.read()), name)  # a path in it is as it was given
-
-
-def fault_of(process: Process, said: IO[bytes], output: IO[bytes]) -> Optional[Fault]:
-    """Waits for the program to end, and returns the fault of its input that it has reported, if any.
-
-    Raises what else it has reported, or why its output, a file that isn't needed then, takes no more.
-    """
-    if not process.wait():
-        return None
-    reported = end_of(process, said)
-    if isinstance(reported, Fault) and reported.offset is not None:
-        return reported
-    output.write(bytes(_ROOM))
-    output.flush()
-    raise reported
 
 
 class _TimedOutput(io.RawIOBase):

@@ -3,11 +3,11 @@ import contextlib
 import os
 from typing import Any, Optional
 
-from .command import report
+from .streams import report
 
 
 class Silent:
-    """Shows nothing."""
+    """Shows nothing of how far the work is, in archives and bytes."""
 
     def begin(self, archives: int, size: int) -> None:
         """This number of archives, of `size` bytes together, will be read."""

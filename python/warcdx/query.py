@@ -106,14 +106,6 @@ class Query(NamedTuple):
             return None, self
         return int(digits), rest
 
-    def with_value(self, name: str, value: str) -> "Query":
-        """Returns the query with this value, which is encoded, in the place of the parameter or at the end."""
-        piece = f"{name}={value}"
-        for number, each in enumerate(self.pieces):
-            if unquote_plus(each.partition("=")[0]) == name:
-                return Query((*self.pieces[:number], piece, *self.pieces[number + 1 :]))
-        return Query((*self.pieces, piece))
-
     def with_parameters(self, **parameters: Value) -> "Query":
         return Query((*self.pieces, *Query.of(None, parameters).pieces))
 

@@ -17,7 +17,6 @@ HTTP_TYPE = "application/http"
 HEAD_LIMIT = 1_048_576  # bytes of a record's head
 _PIECE = 1 << 16
 _LENGTH = re.compile("[0-9]{1,19}")
-_END_OF_FIELD = re.compile(rb"\r\n(?![ \t])")
 _DATE = re.compile(r"([0-9-]{10}T[0-9:]{8})(?:\.([0-9]{1,9}))?Z")
 
 
@@ -150,6 +149,15 @@ class RecordStream:
         self._take()
         yield from self._pieces()
 
+    def whole_block(self) -> Iterator[bytes]:
+        """Yields the block as `block` does. Raises Unreadable if it has fewer bytes than `length`."""
+        left = self.length
+        for piece in self.block():
+            left -= len(piece)
+            yield piece
+        if left:
+            raise Unreadable("the archive ends in the record")
+
     def _take(self, message: Optional[Message] = None) -> None:
         if self._is_taken or message is None and "_message" in self.__dict__:
             raise ValueError("a RecordStream is read once; open the record again")
@@ -186,6 +194,11 @@ class RecordStream:
         self._take(self._message)
         return _said_to_be_cut(self.head, self._message.stored_payload(limits))
 
+    @property
+    def stored_length(self) -> Optional[int]:
+        """The bytes of `stored_payload` in a whole record, or None if a transfer coding hides them."""
+        return self._message.stored_length(self.length)
+
     def has_content_codings(self, limits: Limits = UNLIMITED) -> bool:
         """Returns whether the body has all content codings of its head, by its first bytes, which stay to be read.
 
@@ -202,17 +215,6 @@ class RecordStream:
 def without_brackets(url: str) -> str:
     """Returns a URL without the brackets that GNU Wget writes around it."""
     return url[1:-1] if url.startswith("<") and url.endswith(">") else url
-
-
-def fields_named(head: bytes, names: "re.Pattern[bytes]") -> Iterator[tuple[str, str]]:
-    """Yields those fields of the text of a head at whose beginnings an expression matches: a line break, a name and a colon.
-
-    Others aren't read: a head may have hundreds of thousands.
-    """
-    for found in names.finditer(head):
-        end = _END_OF_FIELD.search(head, found.end())
-        text = head[found.start() + len(b"\r\n") : end.start() if end else None]
-        yield field_of(unfolded(text.decode(errors="surrogateescape").split("\r\n"))[0])
 
 
 def _length_of(head: Head) -> int:

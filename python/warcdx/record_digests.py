@@ -1,21 +1,16 @@
-"""Compares the digests of a record, which is given in pieces, with its block and payload. Nothing but heads is held."""
+"""Compares the digests of a record with its block, which is given in pieces, and with its payload. Nothing but heads is held."""
 import contextlib
 import enum
-import re
 from collections.abc import Callable, Iterator
 from typing import NamedTuple, Optional, Union
 
 from .codings import Decoder, Limits, Unreadable
 from .digests import Digest
 from .http_messages import HeadReader, HttpHead
-from .record import CLOSING, HEAD_LIMIT, Head, fields_named
+from .record import Head
 
 BLOCK_DIGEST = "WARC-Block-Digest"
 PAYLOAD_DIGEST = "WARC-Payload-Digest"
-_READ = re.compile(
-    rb"\r\n(?i:Content-Length|Content-Type|WARC-Type|WARC-Segment-Number|WARC-(?:Block|Payload)-Digest):"
-)
-_LENGTH = re.compile("[0-9]{1,19}")
 _MOST_UNPACKED = 1 << 30  # bytes of a body without transfer codings that compress it
 
 
@@ -42,7 +37,7 @@ class Verdicts(NamedTuple):
 
 
 class BlockCheck:
-    """A block that is read in pieces. It has `length` bytes."""
+    """The block of a record, of `length` bytes, which is read in pieces."""
 
     def __init__(self, head: Head, length: int) -> None:
         self._is_revisit = head.kind == "revisit"
@@ -70,63 +65,6 @@ class BlockCheck:
             return Verdict.SAME
         # So writes GNU Wget.
         return Verdict.EMPTY if self._is_revisit and digest.is_of(digest.start()) else Verdict.DIFFERS
-
-
-class RecordCheck:
-    """A record that is read in pieces. `size` is its length in bytes, which is known when its head was read."""
-
-    def __init__(self) -> None:
-        self.size: Optional[int] = None
-        self._text = bytearray()  # the head, until it ends
-        self._taken = 0  # bytes of the record
-        self._left = 0  # bytes of the block
-
-    @property
-    def is_whole(self) -> bool:
-        """Whether the record was read to its end."""
-        return self._taken == self.size
-
-    def add(self, piece: memoryview) -> memoryview:
-        """Takes the next bytes, and returns those after the record's end. Raises Unreadable if the head isn't one."""
-        if self.size is None:
-            piece = self._add_to_head(piece)
-        if self.size is None:
-            return piece
-        block = piece[: self._left]
-        self._left -= len(block)
-        self._taken += len(block)
-        if block:
-            self._block.add(bytes(block))
-        piece = piece[len(block) :]
-        end = piece[: self.size - self._taken if not self._left else 0]
-        self._taken += len(end)
-        return piece[len(end) :]
-
-    def verdicts(self) -> Verdicts:
-        """Returns the verdicts of a whole record."""
-        return self._block.verdicts()
-
-    def _add_to_head(self, piece: memoryview) -> memoryview:
-        """Returns what is after the head."""
-        held = len(self._text)
-        self._text += piece
-        at = self._text.find(CLOSING, max(0, held - len(CLOSING) + 1))
-        if at < 0:
-            if len(self._text) > HEAD_LIMIT:
-                raise Unreadable("the head of the record is too long")
-            return piece[len(piece) :]
-        self._taken = at + len(CLOSING)
-        self._start_block(Head(tuple(fields_named(bytes(self._text[:at]), _READ))))
-        self._text = bytearray()
-        return piece[self._taken - held :]
-
-    def _start_block(self, head: Head) -> None:
-        length = head.field("Content-Length") or ""
-        if not _LENGTH.fullmatch(length):
-            raise Unreadable("the record has no length")
-        self._left = int(length)
-        self.size = self._taken + self._left + len(CLOSING)
-        self._block = BlockCheck(head, self._left)
 
 
 def _wanted(head: Head, name: str) -> Union[Digest, Verdict]:

@@ -92,25 +92,4 @@ class BadUrl(Refused):
     """An address is refused by the URL Standard, or isn't a web address where it has to be."""
 
 
-BY_NAME: dict[str, type[Refused]] = {
-    each.__name__: each
-    for each in (
-        QueryTooLong,
-        NotText,
-        Unknown,
-        RepeatedParameter,
-        BadMatch,
-        BadStamp,
-        BadFilter,
-        NotLiteral,
-        BadLimit,
-        BadResume,
-        BadFlag,
-        BadField,
-        BadOutput,
-        BadCollapse,
-        NoUrl,
-        UrlAndKey,
-        BadUrl,
-    )
-}
+BY_NAME: dict[str, type[Refused]] = {kind.__name__: kind for kind in Refused.__subclasses__()}

@@ -21,9 +21,7 @@ def refused(name: str, parameter: Optional[str] = None) -> Refused:
     return refusals.BY_NAME.get(name, Refused)(name, parameter)
 
 
-def fault(
-    name: str, file: Optional[str] = None, offset: Optional[int] = None, number: Optional[int] = None
-) -> Fault:
+def fault(name: str, file: Optional[str] = None, offset: Optional[int] = None, number: Optional[int] = None) -> Fault:
     """Returns the fault of this name."""
     return faults.BY_NAME.get(name, Fault)(name, file, offset, number)
 
@@ -50,7 +48,7 @@ def error_of(status: int, said: str, program: str = "warcdx") -> Error:
     return ProgramEnded(status, said, program)
 
 
-def _fault_of_file(name: str, file: str, system: Optional["re.Match[str]"]) -> Fault:
+def _fault_of_file(name: str, file: str, system: Optional[re.Match[str]]) -> Fault:
     if name == "CannotOpen":
         return faults.cannot_open(file, int(system[1]) if system else None)
     return fault(name, file)

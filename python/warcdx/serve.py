@@ -1,48 +1,58 @@
 """A `warcdx serve` that is kept: each query is a line, and its reply ends with the line `.`."""
 import contextlib
+import math
 import os
 import select
 import subprocess
 import time
 import weakref
 from collections.abc import Callable, Generator, Iterator
-from typing import IO, Optional
+from typing import IO, NamedTuple, Optional
 
-from .errors import NO_STATUS, Error, ProgramEnded, ProgramError, ReplyTooLate, ReplyTooLong
-from .program import Process, end_of, memory_file, start
+from .errors import NO_STATUS, Error, Fault, ProgramEnded, ProgramError, ReplyTooLate, ReplyTooLong
+from .program import Process, close, end_of, memory_file, start
 from .reply import END, MARK, NOTHING, PIECE, is_whole, refusal_of, rows_of, text_of
 
 PATIENCE = 10  # seconds for the program to end
+LOOKS = 0.25  # seconds between two calls of `waits`
 TAIL = 256  # bytes that hold the end of a reply, and the line of a fault before it
+
+
+class Files(NamedTuple):
+    """The files of indexes: their paths, the paths by which the program opens them, and the descriptors that it has for that."""
+
+    names: tuple[str, ...]
+    operands: tuple[str, ...]
+    descriptors: tuple[int, ...]
 
 
 class Serve:
     """One run of `warcdx serve`, which is started for the first query, and again if it has ended.
 
     If it ends before a reply is whole, it is started again and asked once more. Only one thread at a time
-    may ask it. If a reply takes more than `seconds`, or has more than `most` bytes, the program is ended.
+    may ask it. If a reply takes more than `seconds`, or has more than `most` bytes, the program is ended. While
+    a reply is waited for, `waits` is called again and again. If it raises something, the program is ended.
     """
 
-    def __init__(self, program: str, indexes: tuple[str, ...]) -> None:
-        self._command = (program, "serve", *indexes)
-        self._indexes = indexes
+    def __init__(self, program: str, files: Files) -> None:
+        self._command = (program, "serve", *files.operands)
+        self._files = files
         self._process: Optional[Process] = None
         self._said: Optional[IO[bytes]] = None
+        self.waits: Callable[[], None] = lambda: None
         self._detach: Callable[[], object] = lambda: None  # keeps the program from being ended as an unused one
 
     def rows(self, query: bytes, seconds: Optional[float] = None, most: Optional[int] = None) -> list[list[str]]:
         """Returns the rows of a page, from a query for `output=json`. The first one has the names."""
-        return rows_of(self._reply(query + b"\n", MARK, seconds, most), self._indexes)
+        return rows_of(self._reply(query + b"\n", MARK, seconds, most), self._files.names)
 
-    def text(
-        self, query: bytes, is_json: bool, seconds: Optional[float] = None, most: Optional[int] = None
-    ) -> bytes:
+    def text(self, query: bytes, is_json: bool, seconds: Optional[float] = None, most: Optional[int] = None) -> bytes:
         """Returns a page as the program writes it. Whether it is JSON decides what a fault follows."""
         reply = self._reply(query + b"\n\n", END, seconds, most)
         refusal = refusal_of(reply)
         if refusal is not None and self._reply(query + NOTHING + b"\n\n", END, seconds, most) == reply:
             raise refusal
-        return text_of(reply, is_json, self._indexes)
+        return text_of(reply, is_json, self._files.names)
 
     def stream(self, query: bytes, is_json: bool, seconds: Optional[float] = None) -> Iterator[bytes]:
         """Yields a page as `text` returns it, in pieces as the program writes them, each within `seconds`.
@@ -107,11 +117,9 @@ class Serve:
         refusal = refusal_of(last) if is_short else None
         if refusal is not None and self._reply(query + NOTHING + b"\n\n", END, seconds, None) == last:
             raise refusal
-        yield text_of(last, is_json, self._indexes)
+        yield text_of(last, is_json, self._files.names)
 
-    def _longer_pieces(
-        self, process: Process, query: bytes, held: bytearray, seconds: Optional[float]
-    ) -> Generator[bytes, None, bool]:
+    def _longer_pieces(self, process: Process, query: bytes, held: bytearray, seconds: Optional[float]) -> Generator[bytes, None, bool]:
         """Asks, and yields the reply but for its end, which is left in `held`. Returns whether it has nothing else."""
         is_short, limit = True, _limit(seconds)
         self._ask(process, query + b"\n\n", limit)
@@ -123,9 +131,7 @@ class Serve:
             held += self._read(process, limit)
         return is_short
 
-    def _exchange(
-        self, process: Process, asked: bytes, end: bytes, limit: Optional[float], most: Optional[int]
-    ) -> bytes:
+    def _exchange(self, process: Process, asked: bytes, end: bytes, limit: Optional[float], most: Optional[int]) -> bytes:
         self._ask(process, asked, limit)
         reply = bytearray()
         while not is_whole(reply, end):
@@ -144,28 +150,30 @@ class Serve:
                 try:
                     left = left[os.write(process.stdin.fileno(), left) :]
                 except BlockingIOError:
-                    _wait(process.stdin, select.POLLOUT, limit)
+                    _is_ready(process.stdin, select.POLLOUT, limit)
 
     def _read(self, process: Process, limit: Optional[float]) -> bytes:
         assert process.stdout is not None and self._said is not None
         if limit is not None:
-            _wait(process.stdout, select.POLLIN, limit)
+            while not _is_ready(process.stdout, select.POLLIN, limit, LOOKS):
+                self.waits()
         piece = os.read(process.stdout.fileno(), PIECE)
         if not piece:
             raise self._end_of(process, self._said)
         return piece
 
-    @staticmethod
-    def _end_of(process: Process, said: IO[bytes]) -> Error:
+    def _end_of(self, process: Process, said: IO[bytes]) -> Error:
         """Returns why the program has closed its output. One that doesn't end by itself is ended."""
         assert process.stdin is not None
-        with contextlib.suppress(BrokenPipeError):
-            process.stdin.close()
+        close(process.stdin)
         try:
             process.wait(timeout=PATIENCE)
         except subprocess.TimeoutExpired:
             process.kill()
-        return end_of(process, said)
+        error = end_of(process, said)
+        if isinstance(error, Fault) and error.file in self._files.operands:
+            error.file = self._files.names[self._files.operands.index(error.file)]
+        return error
 
     def _running(self) -> Process:
         if self._process is not None:
@@ -174,7 +182,7 @@ class Serve:
             self._forget(self._process)
         said = memory_file()
         try:
-            self._process = start(self._command, said, subprocess.PIPE)
+            self._process = start(self._command, said, subprocess.PIPE, descriptors=self._files.descriptors)
             assert self._process.stdin is not None
             os.set_blocking(self._process.stdin.fileno(), False)
         except BaseException:
@@ -186,14 +194,14 @@ class Serve:
 
     def _forget(self, process: Process) -> Process:
         self._detach()
-        _close_pipes(process, self._said)
+        close(process.stdin, process.stdout, self._said)
         self._process = self._said = None
         return process
 
 
 def _end_unused(process: Process, said: IO[bytes], starter: int) -> None:
     """Ends the program of a Serve that is gone without an end. A forked process leaves it to its starter."""
-    _close_pipes(process, said)
+    close(process.stdin, process.stdout, said)
     if os.getpid() == starter:
         process.kill()
         process.wait()
@@ -201,22 +209,22 @@ def _end_unused(process: Process, said: IO[bytes], starter: int) -> None:
         process.returncode = NO_STATUS
 
 
-def _close_pipes(process: Process, said: Optional[IO[bytes]]) -> None:
-    for pipe in (process.stdin, process.stdout, said):
-        if pipe is not None:
-            with contextlib.suppress(BrokenPipeError):
-                pipe.close()
-
-
 def _limit(seconds: Optional[float]) -> Optional[float]:
     """Returns the moment at which seconds from now are over."""
     return None if seconds is None else time.monotonic() + seconds
 
 
-def _wait(pipe: IO[bytes], event: int, limit: Optional[float]) -> None:
-    """Waits until a pipe can be read or written, or has ended. Raises ReplyTooLate after a time."""
+def _is_ready(pipe: IO[bytes], event: int, limit: Optional[float], most: float = math.inf) -> bool:
+    """Waits until a pipe can be read or written, or has ended, or for the `most` seconds.
+
+    Returns whether it can. Raises ReplyTooLate after the moment `limit`.
+    """
     poll = select.poll()
     poll.register(pipe, event)
-    left = None if limit is None else max(limit - time.monotonic(), 0) * 1000
-    if not poll.poll(left):
+    left = math.inf if limit is None else max(limit - time.monotonic(), 0)
+    seconds = min(left, most)
+    if poll.poll(None if seconds == math.inf else seconds * 1000):
+        return True
+    if seconds == left:
         raise ReplyTooLate("the reply took too long")
+    return False

@@ -2,6 +2,7 @@
 import contextlib
 import errno
 import io
+import json
 import os
 import select
 import sys
@@ -102,6 +103,29 @@ def write_error(data: "bytes | bytearray | memoryview") -> bool:
             except BlockingIOError:
                 _wait_for(2, select.POLLOUT)
     return not data
+
+
+def report(name: str, text: str) -> bool:
+    """Writes a line of a command to standard error, if that is possible, and returns whether it was."""
+    return write_error(message(name, text))
+
+
+def message(name: str, text: str) -> bytes:
+    return f"{name}: {text}\n".encode(errors="surrogateescape")
+
+
+def is_text(word: str) -> bool:
+    """Returns whether a word is UTF-8."""
+    try:
+        word.encode()
+    except UnicodeEncodeError:
+        return False
+    return True
+
+
+def printable(text: str) -> str:
+    """Returns a text as it is if a terminal shows it as one line and as it is, and else as a JSON string."""
+    return text if text.isprintable() else json.dumps(text)
 
 
 class _Whole(io.BufferedIOBase):

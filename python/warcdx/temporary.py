@@ -1,8 +1,11 @@
-"""A folder for files that is gone when a block ends, also if a signal ends the command."""
+"""Folders and copies of files that are gone when a block ends, also if a signal ends the command."""
 import contextlib
+import os
 import pathlib
+import shutil
 import tempfile
 from collections.abc import Iterator
+from typing import IO
 
 from .ending import blocked
 
@@ -18,3 +21,13 @@ def temporary_folder() -> Iterator[pathlib.Path]:
         finally:
             with blocked():
                 stack.close()
+
+
+@contextlib.contextmanager
+def temporary_copy(source: IO[bytes]) -> Iterator[str]:
+    """Yields the path of a copy of a file that can be read only once, such as a pipe."""
+    with temporary_folder() as folder:
+        path = folder / "copy"
+        with open(path, "wb") as copy:
+            shutil.copyfileobj(source, copy)
+        yield os.fspath(path)

@@ -1,258 +1,216 @@
-"""Keeps one index of the archives in a folder up to date."""
-import contextlib
+"""Brings the index of a folder of archives up to date."""
+import datetime
+import json
 import os
-from collections.abc import Callable, Iterator, Mapping, Sequence
-from typing import Any, NamedTuple, Optional, Protocol, Union
+from collections.abc import Callable, Iterable, Iterator, Mapping, Sequence
+from typing import Any, NamedTuple, Optional
 
-from .update_counts import Made, counts_in, counts_of, has_members, summary_of
-from .update_files import CannotUpdate, Fingerprint
-from .update_folder import Archive, Found, Passed, find_archives
-from .update_reports import FAILED, Action, Report, damage_of, reason_of
-from .update_results import Plan, Removal, Results
-from .update_settings import Settings
-from .update_task import FAULT, Failed, Indexed, check_index, index_archive, merge_parts
-from .update_workers import Task, Workers
+from .progress import Silent
+from .update_archives import Found, FoundArchive, find_archives
+from .update_merges import Merging, batches_of
+from .update_outputs import Single
+from .update_reports import FAILED, GONE, Action, Outcome, Report, Said, damage_of, reason_of
+from .update_store import Store
+from .update_tables import Archive, CannotUpdate, Merged, Run, Settings, text_of
+from .update_tasks import Failed, Indexed, Written, index_archives, merge_runs
+from .update_workers import Workers
 
-MOST = 1000  # parts that are merged at a time: the program takes 1,024, and many systems as many open files
-GONE = "it is gone"  # what a report says of an archive whose captures the index keeps all the same
-
-
-class Programs(NamedTuple):
-    """The commands for plain and for compressed archives, each as a list of arguments."""
-
-    plain: tuple[str, ...]
-    compressed: tuple[str, ...]
+TRIES = 3  # of a task
 
 
-class Outcome(NamedTuple):
-    """What an update has done: a report on each archive, in the order of their names, and why it has failed, if it has.
+class Removal(NamedTuple):
+    """How many archives may leave an index in a run: a number, or a share of those that it has in hundredths."""
 
-    `is_replaced` says whether it has replaced the index, if it has failed. `gone` are the archives that are gone, and keep their
-    captures. `known` has the messages of the faults that earlier runs have reported, by the names of reports.
+    most: int
+    is_share: bool
+
+    def allows(self, archives: int, of: int) -> bool:
+        return 100 * archives <= self.most * of if self.is_share else archives <= self.most
+
+
+class Plan(NamedTuple):
+    """What an update does: the archives that it indexes, those that it doesn't, and the names of those that are gone.
+
+    Of those the index loses the captures of all that are `removed`, or keeps the captures of all that are `gone`.
     """
 
-    reports: list[Report]
-    failure: Optional[str]
-    is_replaced: bool
+    new: list[FoundArchive]
+    unchanged: list[FoundArchive]
+    removed: list[str]
     gone: list[str]
-    passed: Passed
-    known: dict[str, str]
-
-    @property
-    def faults(self) -> list[Report]:
-        """The reports on archives and folders at fault, but for those on archives that are gone."""
-        gone = frozenset(self.gone)
-        return [report for report in self.reports if report.status and report.archive not in gone]
-
-    def is_known(self, report: Report) -> bool:
-        """Returns whether an earlier run has reported this fault."""
-        return self.known.get(report.archive) == report.message
-
-
-class Said(NamedTuple):
-    """What was said of an outcome: the exit status, and the faults that who runs the command knows of now."""
-
-    status: int
-    faults: list[Report]
-
-
-class Progress(Protocol):
-    """Shows how far the work is."""
-
-    def begin(self, archives: int, size: int) -> None:
-        """This number of archives, of `size` bytes together, will be indexed."""
-
-    def advance(self, size: int) -> None:
-        """An archive of `size` bytes is done."""
-
-    def end(self) -> None:
-        """The archives are done."""
 
 
 class Update:
-    """An update of the index of a folder. It is held by the lock of the results while it works."""
+    """An update of the index of a folder, in the folder of the store, and in one file if `single` is given."""
 
     def __init__(
-        self,
-        settings: Settings,
-        results: Results,
-        programs: Programs,
-        open_workers: Callable[[], contextlib.AbstractContextManager[Workers]],
-        progress: Progress,
+        self, settings: Settings, store: Store, single: Optional[Single], program: str, merging: Merging, progress: Silent
     ) -> None:
         self._settings = settings
-        self._results = results
-        self._programs = programs
-        self._open_workers = open_workers
+        self._store = store
+        self._single = single
+        self._program = program  # reads archives of both forms
+        self._merging = merging
         self._progress = progress
+        self._archives: dict[str, Archive] = {}  # those whose runs are whole
 
-    def run(self, removal: Removal, say: Callable[[Outcome], Said]) -> int:
+    def run(self, removal: Removal, workers: Workers, say: Callable[[Outcome], Said]) -> int:
         """Indexes what is new, makes the index of all, and says what was done. The faults that were said are known to the next run.
 
-        Returns the exit status.
-        Raises Locked, CannotUpdate, Failed or OSError if nothing was indexed.
+        Returns the exit status. Raises CannotUpdate, Failed or OSError if nothing was indexed.
         """
-        self._results.look(self._settings)
         os.scandir(self._settings.folder).close()  # so that nothing is made for a folder that can't be read
-        with self._results.locked(self._settings):
-            said = say(self._run_alone(self.find(), removal))
-            self._results.remember({report.archive: report.message for report in said.faults if report.is_lasting})
+        with self._store.locked(self._settings):
+            if self._single is not None:
+                self._single.begin()
+            with workers:
+                outcome = self._run_alone(removal, workers)
+            said = say(outcome)
+            self._store.remember({text_of(each.archive): each.message for each in said.faults if each.is_lasting})
         return said.status
 
-    def find(self) -> Found:
-        """Returns the archives. Raises OSError if the folder can't be read."""
-        results = self._results
-        return find_archives(self._settings.folder, self._settings.recursive, str(results.folder), results.own)
+    def plan(self, removal: Removal) -> tuple[Plan, Found]:
+        """Returns what is to be done. Raises OSError if the folder of archives can't be read."""
+        own = () if self._single is None else self._single.own
+        found = find_archives(self._settings.folder, self._settings.recursive, self._store.folder, own)
+        whole = {run.number for run in self._store.runs() if self._store.is_whole(run)}
+        had = self._store.archives()
+        self._archives = {name: archive for name, archive in had.items() if archive.run is None or archive.run in whole}
+        plan = Plan([], [], [], [])
+        for archive in found.archives:
+            is_current = archive.name in self._archives and self._archives[archive.name].state == archive.state
+            (plan.unchanged if is_current else plan.new).append(archive)
+        names = {archive.name for archive in found.archives}
+        gone = sorted(name for name in had if name not in names and found.reason_for(name) is None)
+        (plan.removed if removal.allows(len(gone), len(had)) else plan.gone).extend(gone)
+        return plan, found
 
-    def _run_alone(self, found: Found, removal: Removal) -> Outcome:
-        plan = self._results.plan(found, removal)
-        others = list(self._reports_of_others(found, plan))
-        reports, failure = self._carry_out(plan, found, others)
-        ordered = sorted(others + reports, key=lambda report: report.archive)
-        return Outcome(ordered, failure, self._results.is_replaced, plan.gone, found.passed, self._results.faults)
-
-    def _carry_out(self, plan: Plan, found: Found, others: Sequence[Report]) -> tuple[list[Report], Optional[str]]:
-        """Indexes what is new, and makes the index of all. Returns a report on each new archive, and why there is no index."""
-        if not plan.new and not plan.removed and self._is_made(self._members(plan, found, others)):
-            return [], None
-        with self._results.open(plan), self._open_workers() as workers:
-            reports = list(self._index(workers, plan.new))
-            return reports, self._try_to_make(workers, plan, self._members(plan, found, [*others, *reports]))
-
-    def _try_to_make(self, workers: Workers, plan: Plan, members: Mapping[str, Any]) -> Optional[str]:
-        """Makes the index of all parts if there isn't one. Returns why it can't be made."""
+    def _run_alone(self, removal: Removal, workers: Workers) -> Outcome:
+        plan, found = self.plan(removal)
+        reports = list(self._reports_of_others(plan, found))
+        reports += self._index(workers, plan.new)
+        failure = None
         try:
-            self._make(workers, plan, members)
+            self._forget(plan.removed)
+            self._publish(workers, self._members(plan, found, reports))
         except (CannotUpdate, Failed, OSError) as error:
-            return reason_of(error)
-        return None
+            failure = reason_of(error)
+        reports.sort(key=lambda report: report.archive)
+        is_there = bool(self._store.noted.state) if self._single is None else os.path.exists(self._single.path)
+        return Outcome(reports, failure, is_there, plan.gone, found.passed, self._store.faults())
 
-    def _reports_of_others(self, found: Found, plan: Plan) -> Iterator[Report]:
+    def _forget(self, archives: Sequence[str]) -> None:
+        if archives:
+            self._store.forget(archives)
+        for name in archives:
+            self._archives.pop(name, None)
+
+    def _reports_of_others(self, plan: Plan, found: Found) -> Iterator[Report]:
         """Yields a report on each archive that isn't indexed now."""
-        parts = self._results.log.parts
         for archive in plan.unchanged:
-            yield Report.of(parts[archive.name], Action.UNCHANGED)
+            yield Report.of(archive.name, self._archives[archive.name], Action.UNCHANGED)
         for name in plan.removed:
             yield Report(name, Action.REMOVED, 0, "", 0, 0)
         for name in plan.gone:
             yield self._failure(name, GONE)
-        for name in parts:
-            reason = found.reason_for(name)
-            if reason is not None:
+        for name in self._archives:
+            if (reason := found.reason_for(name)) is not None:
                 yield self._failure(name, reason)
         for folder, reason in found.unreadable.items():
             yield Report(f"{folder}/", Action.LEFT_OUT, FAILED, reason, 0, 0)
 
     def _failure(self, name: str, reason: str, size: Optional[int] = None) -> Report:
         """Returns a report on an archive that can't be indexed, of `size` bytes if its size is known."""
-        part = self._results.log.parts.get(name)
-        if part is None:
+        archive = self._archives.get(name)
+        if archive is None:
             return Report(name, Action.LEFT_OUT, FAILED, reason, size or 0, 0)
-        kept = Report.of(part, Action.KEPT)
-        return kept._replace(status=FAILED, message=reason, bytes=kept.bytes if size is None else size)
+        size = archive.state[0] if size is None else size
+        return Report(name, Action.KEPT, FAILED, reason, size, archive.captures)
 
-    def _index(self, workers: Workers, archives: Sequence[Archive]) -> Iterator[Report]:
-        """Indexes archives. Yields a report on each."""
-        for archive in archives:
-            if not archive.is_text:
-                yield self._failure(archive.name, "the name isn't UTF-8", archive.size)
-        places = (self._settings.folder, str(self._results.unfinished))
-        words = self._settings.words
-        yield from self._run(
-            workers,
-            {Task(index_archive, (*self._programs, *places, each.name, words)): each for each in archives if each.is_text},
-        )
-
-    def _run(self, workers: Workers, tasks: Mapping[Task, Archive]) -> Iterator[Report]:
-        """Indexes archives by these tasks. Yields a report on each."""
-        self._progress.begin(len(tasks), sum(archive.size for archive in tasks.values()))
+    def _index(self, workers: Workers, archives: Sequence[FoundArchive]) -> Iterator[Report]:
+        """Indexes archives. Yields a report on each. Those that fail together are tried again one by one."""
+        yield from (self._failure(each.name, "the name isn't UTF-8", each.size) for each in archives if not each.is_text)
+        batches = batches_of([each for each in archives if each.is_text])
+        self._progress.begin(sum(map(len, batches)), sum(each.size for batch in batches for each in batch))
         try:
-            for task, outcome in workers.run(list(tasks)):
-                yield self._keep(tasks[task], outcome)
-                self._progress.advance(tasks[task].size)
+            for left in reversed(range(TRIES)):
+                failed = []
+                for batch, error in self._try(workers, batches):
+                    if error is not None and left:
+                        failed += batch
+                        continue
+                    for each in batch:
+                        self._progress.advance(each.size)
+                        yield self._failure(each.name, reason_of(error), each.size) if error else self._success(each.name)
+                batches = [[each] for each in failed]
         finally:
             self._progress.end()
 
-    def _keep(self, archive: Archive, outcome: Union[Indexed, Exception]) -> Report:
-        if isinstance(outcome, Exception):
-            return self._failure(archive.name, reason_of(outcome), archive.size)
-        try:
-            self._results.keep(archive.name, outcome)
-        except OSError as error:
-            return self._failure(archive.name, reason_of(error), archive.size)
-        return Report.of(self._results.log.parts[archive.name], Action.INDEXED)
+    def _success(self, name: str) -> Report:
+        return Report.of(name, self._archives[name], Action.INDEXED)
 
-    def _is_current(self) -> bool:
-        """Returns whether the index is the one that was made of the parts."""
-        results = self._results
-        made = results.made
-        if made is None or made.parts != {part.archive: part.file for part in results.log.parts.values()}:
-            return False
-        return made.index_file == Fingerprint.of(results.index) and made.summary_file == Fingerprint.of(results.summary)
+    def _try(self, workers: Workers, batches: Sequence[list[FoundArchive]]) -> Iterator[tuple[list[FoundArchive], Optional[Exception]]]:
+        """Indexes archives that belong together by one task. Yields them, and why that has failed if it has."""
+        if not batches:
+            return
+        numbers = self._store.reserve(len(batches))
+        front, words = (self._program, self._settings.folder), ("--types", self._settings.types)
+        tasks = [(*front, [each.name for each in batch], self._store.new(number), words) for number, batch in zip(numbers, batches)]
+        for task, outcome in workers.run(index_archives, tasks):
+            try:
+                if isinstance(outcome, Exception):
+                    raise outcome
+                self._add(numbers[task], *outcome)
+                yield batches[task], None
+            except Exception as error:  # a worker may raise any
+                yield batches[task], error
 
-    def _is_made(self, members: Mapping[str, Any]) -> bool:
-        """Returns whether the index is current, and its summary has these members."""
-        return self._is_current() and has_members(self._results.summary, members)
+    def _add(self, number: int, written: Written, indexed: Sequence[Indexed]) -> None:
+        self._store.add(number, written, indexed)
+        for name, state, cause, captures in indexed:
+            self._archives[name] = Archive(state, cause, captures, number if captures else None)
 
-    def _members(self, plan: Plan, found: Found, reports: Sequence[Report]) -> dict[str, Any]:
+    def _members(self, plan: Plan, found: Found, reports: Iterable[Report]) -> dict[str, Any]:
         """Returns the members of a summary that aren't counts of captures."""
-        removed, gone = frozenset(plan.removed), frozenset(plan.gone)
-        parts = sorted(part for part in self._results.log.parts.values() if part.archive not in removed)
+        gone = frozenset(plan.gone)
+        unread = sorted((each.archive, each.message) for each in reports if each.status == FAILED and each.archive not in gone)
         return {
-            "archives": len(parts),
-            "bytes": sum(part.identity.size for part in parts),
-            "damaged": [damage_of(part) for part in parts if part.status == FAULT],
-            "unread": [
-                {"archive": report.archive, "cause": report.message}
-                for report in sorted(reports, key=lambda report: report.archive)
-                if report.status == FAILED and report.archive not in gone
-            ],
+            "archives": len(self._archives),
+            "bytes": sum(archive.state[0] for archive in self._archives.values()),
+            "damaged": [damage_of(name, archive.cause) for name, archive in sorted(self._archives.items()) if archive.cause],
+            "unread": [{"archive": name, "cause": cause} for name, cause in unread],
             "gone": len(plan.gone),
             "passed_over": found.passed.values(),
         }
 
-    def _make(self, workers: Workers, plan: Plan, members: Mapping[str, Any]) -> None:
-        """Makes the index of all parts and its summary, or the summary alone if the index is current."""
-        made, results = self._results.made, self._results
-        if self._is_made(members):
-            return
-        if made is not None and self._is_current() and (counts := counts_in(results.made_file)) is not None:
-            summary = results.replace_summary(summary_of(counts, members))
-            results.write(results.made_file.name, made._replace(summary_file=summary).text(counts))
-        else:
-            self._merge(workers, plan, members)
+    def _publish(self, workers: Workers, members: Mapping[str, Any]) -> None:
+        """Makes a state with what is new, unless nothing is, and the one file of it."""
+        if lost := sorted(self._store.archives().keys() - self._archives.keys()):
+            raise CannotUpdate(f"{len(lost):,} archives can't be indexed anew whose runs are missing or damaged, such as {lost[0]!a}")
+        runs = self._store.runs()
+        unused = [run for run in runs if not run.left]
+        groups = self._groups([run for run in runs if run.left])
+        is_new = not self._store.noted.state or bool(groups or unused) or any(run.since is None for run in runs)
+        if is_new or not members.items() <= json.loads(self._store.noted.summary).items():
+            now = datetime.datetime.now(datetime.timezone.utc).strftime("%Y-%m-%dT%H:%M:%SZ")
+            merged = [self._merge(workers, group) for group in groups]
+            self._store.publish(merged, unused, {"made": now, **members})
+        if self._single is not None and not self._single.is_current:
+            self._single.take(self._merge(workers, self._store.runs()).path)
 
-    def _merge(self, workers: Workers, plan: Plan, members: Mapping[str, Any]) -> None:
-        """Makes the index of all parts, and its summary."""
-        results = self._results
-        self._expect_kept(plan)
-        files = frozenset(part.file for part in results.log.parts.values())
-        counts = counts_of(results.folder, files, results.made, results.made_file)
-        merged = f"{results.unfinished.name}/merged"
-        self._merge_levels(workers, sorted(files), merged)
-        (captures,) = workers.run_all([Task(check_index, (self._programs.plain, str(results.folder), merged))])
-        if captures != counts.captures:
-            raise CannotUpdate(f"the parts have {counts.captures} captures, and the index of them has {captures}")
-        index, summary = results.replace_index(merged, summary_of(counts, members))
-        made = Made(index, summary, {part.archive: part.file for part in results.log.parts.values()})
-        results.write(results.made_file.name, made.text(counts))
+    def _groups(self, runs: Sequence[Run]) -> list[Sequence[Run]]:
+        """Returns the runs that become one, and by itself each further one that has to be written anew."""
+        number = self._merging.number([run.size for run in runs])
+        number = number if number > 1 else 0
+        return [*[runs[:number]] * (number > 0), *([run] for run in runs[number:] if run.is_stale)]
 
-    def _expect_kept(self, plan: Plan) -> None:
-        """Raises CannotUpdate if the index would lose the captures of an archive that isn't to leave it."""
-        made, log = self._results.made, self._results.log
-        lost = sorted((frozenset() if made is None else made.parts.keys()) - log.parts.keys() - frozenset(plan.removed))
-        if lost:
-            raise CannotUpdate(f"{len(lost):,} parts are missing or damaged and can't be made anew, such as of {lost[0]!a}")
-
-    def _merge_levels(self, workers: Workers, files: list[str], output: str) -> None:
-        """Merges parts, in levels if there are too many for one merge."""
-        level, folder = 0, os.path.dirname(output)
-        while len(files) > MOST:
-            groups = [files[start : start + MOST] for start in range(0, len(files), MOST)]
-            outputs = [f"{folder}/merged-{level}-{number}" for number in range(len(groups))]
-            workers.run_all([self._merge_task(group, output) for group, output in zip(groups, outputs)])
-            files, level = outputs, level + 1
-        workers.run_all([self._merge_task(files, output)])
-
-    def _merge_task(self, files: Sequence[str], output: str) -> Task:
-        return Task(merge_parts, (self._programs.plain, str(self._results.folder), tuple(files), output))
+    def _merge(self, workers: Workers, runs: Sequence[Run]) -> Merged:
+        """Makes a run of others, without the captures of archives that these have lost. Raises the error of the last try."""
+        sources = [(run.file, self._store.names_in(run) if run.is_stale else None) for run in runs]
+        for left in reversed(range(TRIES)):
+            (number,) = self._store.reserve(1)
+            ((_, outcome),) = workers.run(merge_runs, [(self._program, self._store.runs_folder, sources, self._store.new(number))])
+            if not isinstance(outcome, Exception):
+                path, size, filtered = outcome
+                return Merged(number, path, size, runs, dict(zip((run.number for run in runs if run.is_stale), filtered)))
+        raise outcome if isinstance(outcome, (Failed, OSError)) else CannotUpdate(reason_of(outcome))

@@ -1,16 +1,18 @@
 """Keeps one index of all archives in a folder up to date.
 
-usage: warcdx-update [--recursive] [--types TYPES] [--remove N|N%|all] [--jobs N | --scheduler ADDRESS] [--report FILE]
-                     [--all-faults] [--quiet] [--dry-run] [--warcdx PROGRAM] [--warcdx-gz PROGRAM] FOLDER INDEX
+usage: warcdx-update [--recursive] [--types TYPES] [--remove N|N%|all] [--jobs N | --scheduler ADDRESS] [--single] [--compact]
+                     [--ratio N] [--report] [--all-faults] [--quiet] [--dry-run] [--warcdx PROGRAM] FOLDER INDEX
 
 FOLDER contains the archives: files whose names end with .warc or .warc.gz. Each one is read as a plain or as a
-compressed archive, as its first bytes say. INDEX is created, or replaced by an index of all of them. In it, the
-file name of an archive is the path of the archive below FOLDER.
+compressed archive, as its first bytes say. In the index, the file name of an archive is its path below FOLDER.
+
+If INDEX is a folder, or its name ends with .d or /, the index is a folder of runs, each of which is a sorted index. An
+update adds a run, merges small ones, and leaves the others as they are. INDEX/current leads to the runs of the index.
+Any other INDEX is one file, which each update writes anew, and INDEX.d is the folder.
 
 Only archives that are new or changed are indexed. An archive has changed if its size, its inode, or the time of a
-change of either has. The folder INDEX.parts keeps an index of each archive, and the file INDEX.summary.json counts
-the captures. INDEX is replaced at once, by an index that `warcdx check` accepts, and only if an earlier run has made
-it. FOLDER, --recursive and --types are those of the first run.
+change of either has. An update is seen at once and as a whole. FOLDER, --recursive and --types are those of the
+first run, and INDEX is replaced only if an earlier run has made it.
 
 If archives are gone, the index keeps their captures, unless --remove lets that many leave it. An archive that
 is damaged is indexed up to the damage. If an archive can't be read, the index keeps the captures that it had of it.
@@ -19,32 +21,34 @@ newly damaged; 2 after a usage error; or 3 if an archive newly can't be read, ar
 or another process updates it.
 """
 import argparse
-import contextlib
 import functools
 import json
-import logging
 import os
 import re
 from collections import Counter
-from collections.abc import Callable, Iterator, Sequence
+from collections.abc import Sequence
 from typing import BinaryIO, Optional
 
-from . import __version__, update_task
-from .command import FAILED, Parser, printable, report, run
+from . import __version__
+from .command import FAILED, Parser, failure, number_from, printable, report, run
 from .errors import Error
-from .program import PACKED, find_program, packed_program_of
+from .files import is_in
+from .program import PACKED, find_packed_program
 from .progress import Lines, Silent, bar_on_terminal
-from .update import Outcome, Programs, Progress, Said, Update
-from .update_files import CannotUpdate
-from .update_reports import Action, Report
-from .update_results import Locked, Removal, Results
-from .update_settings import TYPES, Settings
-from .update_task import Failed
-from .update_workers import Workers, local_workers
+from .update import Removal, Update
+from .update_merges import Merging
+from .update_outputs import Single
+from .update_reports import Action, Outcome, Report, Said
+from .update_store import Store
+from .update_tables import CannotUpdate, Settings
+from .update_tasks import Failed
+from .update_workers import Cluster, Threads, Workers
 
 NAME = "warcdx-update"
+TYPES = ("response", "resource", "revisit", "conversion", "metadata")
+USUAL = TYPES[:3]
+LARGE = 1 << 30  # bytes of one file that is said to be large
 CONSEQUENCES = {Action.KEPT: "; the index keeps its captures", Action.LEFT_OUT: "; left out"}
-_NUMBER = re.compile("[1-9][0-9]{0,2}")
 _REMOVAL = re.compile("(0|[1-9][0-9]{0,17})(%?)")
 
 
@@ -54,7 +58,7 @@ def read_arguments(arguments: Optional[Sequence[str]]) -> argparse.Namespace:
     add = parser.add_argument
     add("--version", action="version", version=f"{NAME} {__version__}")
     add("--recursive", action="store_true", help="also index the archives in the folders below FOLDER")
-    add("--types", type=types_of, metavar="TYPES", help="the types of records that are indexed, as in warcdx index")
+    add("--types", type=types_of, default=USUAL, metavar="TYPES", help="the types of records that are indexed, as in warcdx index")
     add(
         "--remove",
         type=removal_of,
@@ -64,34 +68,30 @@ def read_arguments(arguments: Optional[Sequence[str]]) -> argparse.Namespace:
     )
     workers.add_argument(
         "--jobs",
-        type=jobs_of,
+        type=number_from(1, 999),
         default=len(os.sched_getaffinity(0)),
         metavar="N",
         help="index N archives at a time (default: the number of processors)",
     )
     workers.add_argument("--scheduler", metavar="ADDRESS", help="use the workers of the Dask scheduler at ADDRESS")
-    add("--report", metavar="FILE", help="write a line of JSON about each archive to FILE")
+    add("--single", action="store_true", help="make INDEX one file, whatever its name is")
+    add("--compact", action="store_true", help="merge all runs of the index into one")
+    add("--ratio", type=number_from(2, 16), default=8, metavar="N", help="merge N runs of similar sizes, 2 to 16 (%(default)s)")
+    add("--report", action="store_true", help="print a line of JSON about each archive")
     add("--all-faults", action="store_true", help="report the faults too that an earlier run has reported")
     add("--quiet", action="store_true", help="print nothing but faults")
     add("--dry-run", action="store_true", help="print what would be indexed, removed and kept, and change nothing")
-    add("--warcdx", default="warcdx", metavar="PROGRAM", help="the program for plain archives (%(default)s)")
-    add("--warcdx-gz", metavar="PROGRAM", help="the program for compressed archives (warcdx-gz beside the other one, or of the PATH)")
+    add("--warcdx", default="warcdx", metavar="PROGRAM", help="warcdx-gz, or the program beside which it is (%(default)s)")
     add("folder", metavar="FOLDER")
     add("index", metavar="INDEX")
     return parser.parse(arguments)
 
 
-def jobs_of(text: str) -> int:
-    if not _NUMBER.fullmatch(text):
-        raise argparse.ArgumentTypeError("the number of jobs is 1 to 999")
-    return int(text)
-
-
-def types_of(text: str) -> frozenset[str]:
+def types_of(text: str) -> tuple[str, ...]:
     types = text.split(",")
     if len(set(types)) < len(types) or not set(types) <= set(TYPES):
         raise argparse.ArgumentTypeError(f"types are {', '.join(TYPES[:-1])} and {TYPES[-1]}, each once at most, with ',' between")
-    return frozenset(types)
+    return tuple(each for each in TYPES if each in types)
 
 
 def removal_of(text: str) -> Removal:
@@ -103,79 +103,55 @@ def removal_of(text: str) -> Removal:
     return Removal(int(found[1]), bool(found[2]))
 
 
-def programs_of(given: argparse.Namespace) -> Programs:
-    """Returns the programs that the tasks run. On a cluster, a name without `/` is that of a program on the worker's PATH."""
-    plain, packed = find_program(given.warcdx), given.warcdx_gz
-    if given.scheduler and os.sep not in given.warcdx:
-        plain, packed = given.warcdx, packed or PACKED
-    elif packed is None:
-        packed = packed_program_of(plain)
-    return Programs((plain,), (os.path.abspath(packed) if os.sep in packed else packed,))
+def program_of(given: argparse.Namespace) -> str:
+    """Returns the program that the tasks run. On a cluster, a name without `/` is that of a program on the worker's PATH."""
+    program = find_packed_program(given.warcdx)
+    return PACKED if given.scheduler and os.sep not in given.warcdx else program
 
 
-@contextlib.contextmanager
-def cluster_workers(address: str) -> Iterator[Workers]:
-    """Yields the workers of a Dask cluster."""
-    try:
-        import cloudpickle
-        import distributed
-    except ImportError:
-        raise CannotUpdate("the module distributed is missing (Debian's package python3-distributed)") from None
-    logging.disable()  # what Dask logs of a lost worker isn't for the user
-    cloudpickle.register_pickle_by_value(update_task)
-    with distributed.Client(address) as client, client.get_executor(pure=False) as executor:
-        try:
-            yield Workers(executor)
-        except BaseException:
-            executor.shutdown(wait=False)
-            raise
-
-
-def progress_of(given: argparse.Namespace) -> Progress:
+def progress_of(given: argparse.Namespace) -> Silent:
     return Silent() if given.quiet else bar_on_terminal() or Lines(NAME)
 
 
-def print_plan(given: argparse.Namespace, work: Update, results: Results, settings: Settings, output: BinaryIO) -> None:
-    results.look(settings)
-    results.load()
-    found = work.find()
-    plan = results.plan(found, given.remove)
+def update(given: argparse.Namespace, output: BinaryIO) -> int:
+    settings = Settings(os.path.realpath(given.folder), given.recursive, ",".join(given.types))
+    is_folder = not given.single and (os.path.isdir(given.index) or given.index.endswith((".d", "/")))
+    store = Store(given.index if is_folder else f"{os.path.realpath(given.index)}.d")
+    single = None if is_folder else Single(store, given.index)
+    expect_usable(settings, store)
+    program = program_of(given)
+    work = Update(settings, store, single, program, Merging(given.ratio, given.compact), progress_of(given))
+    if given.dry_run:
+        with store.opened(settings):
+            if single is not None:
+                single.expect()
+            print_plan(given, work, output)
+        return 0
+    workers: Workers = Cluster(given.scheduler) if given.scheduler else Threads(given.jobs)
+    return work.run(given.remove, workers, functools.partial(say, given, output))
+
+
+def expect_usable(settings: Settings, store: Store) -> None:
+    """Raises CannotUpdate if the archives are in the folder of the index, or it is among them."""
+    if is_in(settings.folder, store.folder):
+        raise CannotUpdate(f"the folder of archives is in the folder of the index, {store.folder}")
+    if settings.recursive and is_in(store.folder, settings.folder):
+        raise CannotUpdate(f"with --recursive, the folder of the index, {store.folder}, can't be in the folder of archives")
+
+
+def print_plan(given: argparse.Namespace, work: Update, output: BinaryIO) -> None:
+    plan, found = work.plan(given.remove)
     for word, names in (("index", [archive.name for archive in plan.new]), ("remove", plan.removed), ("keep", plan.gone)):
-        for name in names:
-            output.write(f"{word} {printable(name)}\n".encode())
+        output.writelines(f"{word} {printable(name)}\n".encode() for name in names)
     if line := found.passed.line():
         output.write(f"{line}\n".encode())
 
 
-def update(given: argparse.Namespace, output: BinaryIO) -> int:
-    results = Results(given.index)
-    settings = Settings.of(given.folder, given.recursive, given.types)
-    work = Update(settings, results, programs_of(given), workers_of(given), progress_of(given))
-    if given.dry_run:
-        print_plan(given, work, results, settings, output)
-        return 0
-    if given.report:
-        results.look(settings)
-        results.expect_report(given.report)
-    return work.run(given.remove, functools.partial(say_and_report, given, results))
-
-
-def say_and_report(given: argparse.Namespace, results: Results, outcome: Outcome) -> Said:
-    """Says what was done, and writes the report on it."""
-    said = say(given, outcome)
-    if given.report:
-        results.write_report(given.report, (json.dumps(each.values()) + "\n" for each in outcome.reports))
-    return said
-
-
-def workers_of(given: argparse.Namespace) -> Callable[[], contextlib.AbstractContextManager[Workers]]:
-    if given.scheduler:
-        return functools.partial(cluster_workers, given.scheduler)
-    return functools.partial(local_workers, given.jobs)
-
-
-def say(given: argparse.Namespace, outcome: Outcome) -> Said:
+def say(given: argparse.Namespace, output: BinaryIO, outcome: Outcome) -> Said:
     """Reports the faults that are to be said, and what was done. A fault that standard error doesn't take isn't said."""
+    if given.report:
+        output.writelines(json.dumps(each.values()).encode() + b"\n" for each in outcome.reports)
+        output.flush()
     faults = outcome.faults if given.all_faults else [each for each in outcome.faults if not outcome.is_known(each)]
     lost = {each.archive for each in faults if not report(NAME, line_of(each))}
     status = say_result(given, outcome, faults)
@@ -191,12 +167,16 @@ def say_result(given: argparse.Namespace, outcome: Outcome, faults: Sequence[Rep
     if outcome.gone:
         report(NAME, gone_line(outcome.gone))
     if outcome.failure is not None:
-        report(NAME, f"{printable(given.index)}: {printable(outcome.failure)}; {state_of(given.index, outcome)}")
+        state = "the index stays as it was" if outcome.is_there else "there is no index"
+        report(NAME, f"{printable(given.index)}: {printable(outcome.failure)}; {state}")
         return FAILED
     if not given.quiet:
         if line := outcome.passed.line():
             report(NAME, line)
         report(NAME, total_of(given.index, outcome, len(outcome.faults) - len(faults)))
+        if os.path.isfile(given.index) and os.path.getsize(given.index) > LARGE:
+            name = printable(given.index)
+            report(NAME, f"{name} is large, and each update writes all of it; {name}.d is the same index, and costs only what is new")
     return FAILED if outcome.gone else max((each.status for each in faults), default=0)
 
 
@@ -204,13 +184,6 @@ def gone_line(gone: Sequence[str]) -> str:
     if len(gone) == 1:
         return f"{printable(gone[0])} is gone; the index keeps its captures, unless --remove 1 is given"
     return f"{len(gone):,} archives are gone, the first of them {printable(gone[0])}; the index keeps their captures, unless --remove {len(gone)} is given"
-
-
-def state_of(index: str, outcome: Outcome) -> str:
-    """Says what a run has done to an index before it failed."""
-    if outcome.is_replaced:
-        return "the index was replaced, but what belongs to it wasn't; the next update replaces both"
-    return "the index stays as it was" if os.path.exists(index) else "there is no index"
 
 
 def total_of(index: str, outcome: Outcome, known: int) -> str:
@@ -228,12 +201,10 @@ def main(arguments: Optional[Sequence[str]] = None) -> int:
         given = read_arguments(arguments)
         try:
             return update(given, output)
-        except Locked:
-            report(NAME, f"{printable(given.index)}: another process updates this index")
         except (CannotUpdate, Failed) as error:
             report(NAME, f"{printable(given.index)}: {printable(str(error))}")
+            return FAILED
         except Error as error:
-            report(NAME, printable(str(error)))
-        return FAILED
+            return failure(NAME, error)
 
     return run(NAME, work)

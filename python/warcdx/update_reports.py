@@ -1,21 +1,20 @@
 """What became of the archives in an update, and why."""
 import os
-import re
 from enum import Enum
 from errno import EACCES, EIO, ELOOP, ENAMETOOLONG, ENOENT, ENOTDIR, EPERM
-from typing import Any, NamedTuple
+from typing import Any, NamedTuple, Optional
 
-from .update_files import CannotUpdate
-from .update_log import Part
-from .update_task import FAULT, Failed
+from .update_archives import Passed
+from .update_tables import Archive, CannotUpdate, text_of
+from .update_tasks import FAULT, Failed
 
 FAILED = 3  # the status of an archive that can't be indexed
+GONE = "it is gone"  # what a report says of an archive whose captures the index keeps all the same
 # Why an archive can't be read that may not be read the next time either. Another reason may lie with the machine.
 _LASTING = frozenset(
     ("cannot open", "Read", "not a regular file", "the name isn't UTF-8")
     + tuple(map(os.strerror, (EACCES, EIO, ELOOP, ENAMETOOLONG, ENOENT, ENOTDIR, EPERM)))
 )
-_SAID = re.compile(r"warcdx(?:-gz)?: (?:.*): (?:fault ([0-9]{1,19}) ([A-Za-z0-9]+)|([A-Za-z0-9]+|cannot open))", re.DOTALL)
 
 
 class Action(Enum):
@@ -42,8 +41,8 @@ class Report(NamedTuple):
     captures: int
 
     @classmethod
-    def of(cls, part: Part, action: Action) -> "Report":
-        return cls(part.archive, action, part.status, message_of(part.said), part.identity.size, part.captures)
+    def of(cls, name: str, archive: Archive, action: Action) -> "Report":
+        return cls(name, action, FAULT if archive.cause else 0, archive.cause, archive.state[0], archive.captures)
 
     @property
     def is_lasting(self) -> bool:
@@ -54,10 +53,42 @@ class Report(NamedTuple):
         return {**self._asdict(), "action": self.action.value}
 
 
+class Outcome(NamedTuple):
+    """What an update has done: a report on each archive, in the order of their names, and why it has failed, if it has.
+
+    `is_there` says whether there is an index, as it was or a new one. `gone` are the archives that are gone, and keep their captures.
+    `known` has the messages of faults that were reported before.
+    """
+
+    reports: list[Report]
+    failure: Optional[str]
+    is_there: bool
+    gone: list[str]
+    passed: Passed
+    known: dict[str, str]
+
+    @property
+    def faults(self) -> list[Report]:
+        """The reports on archives and folders at fault, but for those on archives that are gone."""
+        gone = frozenset(self.gone)
+        return [report for report in self.reports if report.status and report.archive not in gone]
+
+    def is_known(self, report: Report) -> bool:
+        """Returns whether an earlier run has reported this fault."""
+        return self.known.get(text_of(report.archive)) == report.message
+
+
+class Said(NamedTuple):
+    """What was said of an outcome: the exit status, and the faults that who runs the command knows of now."""
+
+    status: int
+    faults: list[Report]
+
+
 def reason_of(error: Exception) -> str:
     """Returns why a task has failed."""
     if isinstance(error, (Failed, CannotUpdate)):
-        return message_of(str(error))
+        return str(error)
     if isinstance(error, OSError):
         return error.strerror or str(error)
     if isinstance(error, MemoryError):
@@ -65,18 +96,9 @@ def reason_of(error: Exception) -> str:
     return ": ".join(filter(None, (type(error).__name__, str(error))))
 
 
-def message_of(said: str) -> str:
-    """Returns what the program has said of an archive, without the names of the program and of the archive."""
-    found = _SAID.fullmatch(said)
-    if not found:
-        return said
-    return found[3] if found[1] is None else f"fault {found[1]} {found[2]}"
-
-
-def damage_of(part: Part) -> dict[str, Any]:
+def damage_of(name: str, cause: str) -> dict[str, Any]:
     """Returns the archive, the offset of the record at fault in bytes, and the cause, as a summary has them."""
-    found = _SAID.fullmatch(part.said)
-    if not found:
-        return {"archive": part.archive, "offset": None, "cause": part.said}
-    offset = None if found[1] is None else int(found[1])
-    return {"archive": part.archive, "offset": offset, "cause": found[2] or found[3]}
+    words = cause.split(" ")
+    if len(words) == 3 and words[0] == "fault" and words[1].isdecimal() and len(words[1]) < 20:
+        return {"archive": name, "offset": int(words[1]), "cause": words[2]}
+    return {"archive": name, "offset": None, "cause": cause}

@@ -1,118 +1,116 @@
-"""What runs the tasks of warcdx-update: threads of this process, or other machines."""
+"""What runs the tasks of warcdx-update: threads of this process, or the workers of a cluster."""
 import contextlib
 import errno
+import functools
 import os
+import queue
 import shutil
 import subprocess
 import threading
 from collections.abc import Callable, Iterator, Sequence
-from concurrent.futures import CancelledError, Executor, Future, ThreadPoolExecutor, as_completed
-from typing import Any, NamedTuple, Optional
+from typing import Any, Union
 
-from .update_files import CannotUpdate
-from .update_reports import reason_of
-from .update_task import Failed, Start
+from . import update_tasks
+from .update_tables import CannotUpdate
+from .update_tasks import Failed
 
-RETRIES = 2  # further tries of a task that fails
-
-class Task(NamedTuple):
-    """A call that an executor can run. Its arguments are plain values, since a worker may not have the classes of this package."""
-
-    function: Callable[..., Any]
-    arguments: tuple[Any, ...]
+Task = Callable[..., Any]
+Outcomes = Iterator[tuple[int, Any]]  # the numbers of the arguments of a task, each with the result or the error, as they come
 
 
-class Workers(NamedTuple):
-    """What runs the tasks, and how a task starts a program. Without a `start`, a task starts it by itself."""
+class Threads:
+    """Threads of this process, each of which runs one program at a time. The programs end with it, also if it is killed."""
 
-    executor: Executor
-    start: Optional[Start] = None
-
-    def run(self, tasks: Sequence[Task]) -> Iterator[tuple[Task, Any]]:
-        """Runs tasks. Yields each with its result, or with the error of the last try, as they come."""
-        for attempt in range(RETRIES + 1):
-            futures = {self._submit(task): task for task in tasks}
-            tasks = []
-            for future in as_completed(list(futures)):
-                task = futures.pop(future)
-                outcome = _outcome_of(future)
-                if isinstance(outcome, Exception) and attempt < RETRIES:
-                    tasks.append(task)
-                else:
-                    yield task, outcome
-
-    def run_all(self, tasks: Sequence[Task]) -> list[Any]:
-        """Runs tasks, and returns their results. Raises CannotUpdate if one fails."""
-        found = []
-        for _, outcome in self.run(tasks):
-            if isinstance(outcome, Exception):
-                raise CannotUpdate(reason_of(outcome))
-            found.append(outcome)
-        return found
-
-    def _submit(self, task: Task) -> "Future[Any]":
-        options = {} if self.start is None else {"start": self.start}
-        try:
-            return self.executor.submit(task.function, *task.arguments, **options)
-        except RuntimeError as error:  # no thread can be started, or the cluster is gone
-            raise CannotUpdate(str(error)) from None
-
-
-def _outcome_of(future: "Future[Any]") -> Any:
-    try:
-        return future.result()
-    except (CancelledError, Exception) as error:
-        return error
-
-
-class Children:
-    """The programs that the tasks run in this process, so that they can be ended. They end with it, also if it is killed."""
-
-    def __init__(self) -> None:
-        self._prefix = _ending_with_starter()
+    def __init__(self, jobs: int) -> None:
+        self._jobs = jobs
+        self._threads: list[threading.Thread] = []
+        # A function that subprocess calls in the new process would do the same, but makes a start slower the more memory this process has.
+        self._front = ("setpriv", "--pdeathsig", "KILL") if shutil.which("setpriv") else ()
         self._lock = threading.Lock()
         self._running: set[subprocess.Popen[bytes]] = set()
         self._is_ended = False
 
-    def start(self, command: Sequence[str], **options: Any) -> "subprocess.Popen[bytes]":
-        if shutil.which(command[0]) is None:
-            raise FileNotFoundError(errno.ENOENT, os.strerror(errno.ENOENT), command[0])
-        with self._lock:
-            if self._is_ended:
-                raise Failed("the work is ended")
-            process: subprocess.Popen[bytes] = subprocess.Popen((*self._prefix, *command), **options)
-            self._running = {each for each in self._running if each.returncode is None} | {process}
-            return process
+    def __enter__(self) -> "Threads":
+        return self
 
-    def end(self) -> None:
+    def __exit__(self, *error: object) -> None:
         """Ends the programs that run, and refuses others."""
         with self._lock:
             self._is_ended = True
             for process in self._running:
                 process.kill()
+        for thread in self._threads:
+            thread.join()
+
+    def run(self, task: Task, arguments: Sequence[tuple[Any, ...]]) -> Outcomes:
+        """Runs a task once with each of these arguments."""
+        waiting, outcomes = iter(list(enumerate(arguments))), queue.SimpleQueue[tuple[int, Any]]()
+        for _ in arguments[: self._jobs]:
+            thread = threading.Thread(target=self._work, args=(task, waiting, outcomes))
+            try:
+                thread.start()
+            except RuntimeError as error:
+                raise CannotUpdate(str(error)) from None
+            self._threads.append(thread)
+        for _ in arguments:
+            yield outcomes.get()
+
+    def _work(self, task: Task, waiting: Iterator[tuple[int, Any]], outcomes: "queue.SimpleQueue[tuple[int, Any]]") -> None:
+        for number, each in waiting:
+            try:
+                outcome = task(*each, start=self._start)
+            except BaseException as error:
+                outcome = error
+            outcomes.put((number, outcome))
+
+    def _start(self, command: Sequence[str], **options: Any) -> "subprocess.Popen[bytes]":
+        if shutil.which(command[0]) is None:
+            raise FileNotFoundError(errno.ENOENT, os.strerror(errno.ENOENT), command[0])
+        with self._lock:
+            if self._is_ended:
+                raise Failed("the work is ended")
+            process: subprocess.Popen[bytes] = subprocess.Popen((*self._front, *command), **options)
+            self._running = {each for each in self._running if each.returncode is None} | {process}
+            return process
 
 
-def _ending_with_starter() -> tuple[str, ...]:
-    """Returns the words before a command that let the system end it with the thread that has started it, or none if they aren't known.
+class Cluster(contextlib.ExitStack):
+    """The workers of a Dask cluster, which are sent the functions of the tasks. The first task opens them."""
 
-    A thread of an executor is there until the programs are ended. A function that subprocess calls in the new process would do the
-    same, but makes a start slower the more memory this process has.
-    """
-    setpriv = shutil.which("setpriv")
-    if setpriv is None:
-        return ()
-    words = (setpriv, "--pdeathsig", "KILL", "/bin/sh", "-c", 'test "$PPID" = "$0" && exec "$@"', str(os.getpid()))
-    done = subprocess.run((*words, "true"), stdin=subprocess.DEVNULL, stdout=subprocess.DEVNULL, stderr=subprocess.DEVNULL)
-    return () if done.returncode else words
+    def __init__(self, address: str) -> None:
+        super().__init__()
+        self._address = address
+
+    def run(self, task: Task, arguments: Sequence[tuple[Any, ...]]) -> Outcomes:
+        """Runs a task once with each of these arguments."""
+        from concurrent.futures import CancelledError, as_completed
+
+        try:
+            futures = {self._executor.submit(task, *each): number for number, each in enumerate(arguments)}
+        except RuntimeError as error:  # the cluster is gone
+            raise CannotUpdate(str(error)) from None
+        for future in as_completed(list(futures)):
+            try:
+                outcome = future.result()
+            except (CancelledError, Exception) as error:
+                outcome = error
+            yield futures.pop(future), outcome
+
+    @functools.cached_property
+    def _executor(self) -> Any:
+        import logging
+
+        try:
+            import cloudpickle
+            import distributed
+        except ImportError:
+            raise CannotUpdate("the module distributed is missing (Debian's package python3-distributed)") from None
+        logging.disable()  # what Dask logs of a lost worker isn't for the user
+        cloudpickle.register_pickle_by_value(update_tasks)
+        client = self.enter_context(distributed.Client(self._address))
+        executor = self.enter_context(client.get_executor(pure=False))
+        self.push(lambda kind, *_: executor.shutdown(wait=kind is None))
+        return executor
 
 
-@contextlib.contextmanager
-def local_workers(jobs: int) -> Iterator[Workers]:
-    """Yields threads of this process, each of which runs one program at a time."""
-    children = Children()
-    executor = ThreadPoolExecutor(jobs)
-    try:
-        yield Workers(executor, children.start)
-    finally:
-        children.end()
-        executor.shutdown(cancel_futures=True)
+Workers = Union[Threads, Cluster]

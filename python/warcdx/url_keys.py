@@ -1,13 +1,12 @@
 """URL keys: of many URLs, as `warcdx index` makes them, and their hosts."""
-import contextlib
 import re
 import subprocess
-import tempfile
 from collections.abc import Iterable, Iterator, Sequence
-from typing import IO, NamedTuple, Optional
+from typing import NamedTuple, Optional
 
 from .codings import Unreadable
-from .program import close, fault_of, memory_file, started
+from .errors import Fault
+from .program import end_of, memory_file, started
 
 MOST_URL = 1 << 20  # bytes: the program refuses the head of a record that is longer
 _HEAD = (
@@ -28,7 +27,6 @@ class Keyed(NamedTuple):
     escaped: bytes
 
 
-
 def host_of(key: str) -> Optional[str]:
     """Returns the host and the port of a key, or None if it isn't that of a web address."""
     front, found, path = key.partition(")")
@@ -45,10 +43,7 @@ def keys_of(program: str, urls: Sequence[bytes]) -> Iterator[Keyed]:
 
     No URL has a line feed. The program reads the URLs as the targets of records. Raises Error if it fails.
     """
-    with tempfile.TemporaryFile() as lines:
-        _index(program, urls, lines)
-        lines.seek(0)
-        found = _keyed_by_offset(lines)
+    found = _keyed_by_offset(_lines_of(program, urls))
     offset = 0
     for url in urls:
         if offset not in found:
@@ -57,14 +52,15 @@ def keys_of(program: str, urls: Sequence[bytes]) -> Iterator[Keyed]:
         offset += len(_HEAD) + len(url) + len(_END)
 
 
-def _index(program: str, urls: Sequence[bytes], lines: IO[bytes]) -> None:
-    """Writes the lines of an archive with a record for each URL, up to the first one that the program can't index."""
-    with memory_file() as said, started((program, "index", "-"), said, subprocess.PIPE, lines) as process:
-        assert process.stdin is not None
-        with contextlib.suppress(BrokenPipeError):  # the program has ended at a fault
-            process.stdin.writelines(_HEAD + url + _END for url in urls)
-        close(process.stdin)
-        fault_of(process, said, lines)
+def _lines_of(program: str, urls: Sequence[bytes]) -> list[bytes]:
+    """Returns the lines of an archive with a record for each URL, up to the first one that the program can't index."""
+    with memory_file() as said, started((program, "index", "-"), said, subprocess.PIPE) as process:
+        lines, _ = process.communicate(b"".join(_HEAD + url + _END for url in urls))
+        if process.wait():
+            reported = end_of(process, said)
+            if not isinstance(reported, Fault) or reported.offset is None:
+                raise reported
+    return lines.splitlines(keepends=True)
 
 
 def _keyed_by_offset(lines: Iterable[bytes]) -> dict[int, Keyed]:

@@ -12,7 +12,6 @@ import re
 import stat
 import zlib
 from collections.abc import Iterator
-from types import TracebackType
 from typing import NamedTuple, Optional
 
 from .http_messages import Fields
@@ -302,7 +301,5 @@ class ArchiveFile:
     def __enter__(self) -> "ArchiveFile":
         return self
 
-    def __exit__(
-        self, kind: Optional[type[BaseException]], error: Optional[BaseException], trace: Optional[TracebackType]
-    ) -> None:
+    def __exit__(self, *error: object) -> None:
         self.close()

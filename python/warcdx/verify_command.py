@@ -27,29 +27,23 @@ import argparse
 import contextlib
 import functools
 import os
-import re
-import shutil
 from collections import Counter
 from collections.abc import Iterator, Sequence
 from typing import BinaryIO, NamedTuple, Optional
 
 from . import __version__
 from .archive import Archive, open_archive
-from .command import FAILED, Parser, printable, report, run
+from .command import FAILED, FAULTY, Parser, failure, line_of, number_from, printable, report, run, status_of
 from .errors import Error, Fault
-from .faults import CannotFlush, CannotOpen, Input, Memory, Read, Write
+from .faults import CannotOpen
 from .progress import Lines, Silent, bar_on_terminal
 from .record_digests import Verdict
 from .resuming import CannotResume, Notes
-from .temporary import temporary_folder
+from .temporary import temporary_copy
 from .verifying import check_archive
-from .workers import failure, run_one_by_one, run_side_by_side
+from .workers import run_one_by_one, run_side_by_side
 
 NAME = "warcdx-verify"
-FAULTY = 1  # the exit status if an archive is at fault, a digest differs, or no digest is compared
-MOST_JOBS = 1000
-_FAILURES = (CannotFlush, CannotOpen, Input, Memory, Read, Write)
-_JOBS = re.compile("[0-9]{1,4}")
 
 
 def read_arguments(arguments: Optional[Sequence[str]]) -> argparse.Namespace:
@@ -60,17 +54,11 @@ def read_arguments(arguments: Optional[Sequence[str]]) -> argparse.Namespace:
     help_resume = "note which archives were good in this file, and pass over those that it names"
     parser.add_argument("--resume", metavar="NOTES", help=help_resume)
     help_jobs = "how many archives to check at a time (%(default)s)"
-    parser.add_argument("--jobs", type=_jobs_of, default=1, metavar="N", help=help_jobs)
+    parser.add_argument("--jobs", type=number_from(1, 1000), default=1, metavar="N", help=help_jobs)
     help_program = "the program (%(default)s); for compressed archives warcdx-gz beside it, or of the PATH"
     parser.add_argument("--warcdx", default="warcdx", metavar="PROGRAM", help=help_program)
     parser.add_argument("files", nargs="+", metavar="FILE")
     return parser.parse(arguments)
-
-
-def _jobs_of(text: str) -> int:
-    if not _JOBS.fullmatch(text) or not 1 <= int(text) <= MOST_JOBS:
-        raise argparse.ArgumentTypeError(f"N is a number from 1 to {MOST_JOBS}")
-    return int(text)
 
 
 class Style(NamedTuple):
@@ -95,8 +83,9 @@ def check(file: str, program: str, style: Style, output: BinaryIO) -> int:
             output.write(style.heading)
             return print_archive(file, archive, style, output)
     except Fault as error:
-        report(NAME, _line_of(file, error))
-        return _status_of(error)
+        error.file = error.file and file  # and not that of a copy
+        report(NAME, line_of(error))
+        return status_of(error)
 
 
 @contextlib.contextmanager
@@ -110,11 +99,8 @@ def read_again(file: str) -> Iterator[str]:
         if source.seekable():
             yield file
             return
-        with temporary_folder() as folder:
-            path = folder / "archive"
-            with open(path, "wb") as copy:
-                shutil.copyfileobj(source, copy)
-            yield os.fspath(path)
+        with temporary_copy(source) as path:
+            yield path
 
 
 def print_archive(file: str, archive: Archive, style: Style, output: BinaryIO) -> int:
@@ -126,7 +112,7 @@ def print_archive(file: str, archive: Archive, style: Style, output: BinaryIO) -
         if error.offset is None:
             raise
         output.write(b"%bfault %d %b\n" % (style.name, error.offset, error.name.encode()))
-        status = _status_of(error)
+        status = status_of(error)
     if not any(verdict.is_compared for verdict in found):
         report(NAME, f"{printable(file)}: no digest was compared")
         return max(status, FAULTY)
@@ -142,16 +128,6 @@ def print_records(archive: Archive, style: Style, output: BinaryIO, found: set[V
             if Verdict.DIFFERS in verdicts or not style.is_quiet:
                 line = f"{record.offset} {record.block.value} {record.payload.value}\n"
                 output.write(style.name + line.encode())
-
-
-def _status_of(error: Fault) -> int:
-    return FAILED if isinstance(error, _FAILURES) else FAULTY
-
-
-def _line_of(file: str, error: Fault) -> str:
-    if error.file is None:
-        return error.name
-    return f"{printable(file)}: {'cannot open' if isinstance(error, CannotOpen) else error.name}"
 
 
 class Run:
@@ -200,8 +176,7 @@ class Run:
         self._statuses[status] += 1
         if self._notes is not None:
             self._notes.end(number, self._files[number], not status)
-            if self._notes.is_due:
-                self._save()
+            self._save()
         self._progress.advance(self._sizes[number])
 
     def _save(self) -> None:
@@ -210,8 +185,6 @@ class Run:
         try:
             if self._notes is not None:
                 self._notes.save()
-        except CannotResume as error:
-            lost = str(error)
         except OSError as error:
             lost = _reason_without_notes(self._given.resume, error)
         if lost and not self._lost:
@@ -249,7 +222,7 @@ def _size_of(file: str) -> int:
 
 
 def _reason_without_notes(file: str, error: OSError) -> str:
-    """Returns why notes can't be read or written. The error may name a temporary file."""
+    """Returns why notes can't be read or written."""
     return f"{printable(file)}: {error.strerror}"
 
 

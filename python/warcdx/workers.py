@@ -7,7 +7,7 @@ import signal
 from collections.abc import Callable, Sequence
 from typing import IO, BinaryIO, NoReturn, Optional, Protocol
 
-from .command import FAILED, printable, report, run
+from .command import FAILED, failure, report, run
 from .ending import blocked
 from .errors import Error
 from .streams import write_error
@@ -45,9 +45,7 @@ def run_one_by_one(works: Sequence[Work], output: BinaryIO, watch: Watch) -> int
     return status
 
 
-def run_side_by_side(
-    name: str, works: Sequence[Work], most: int, output: BinaryIO, watch: Watch, is_in_order: bool
-) -> int:
+def run_side_by_side(name: str, works: Sequence[Work], most: int, output: BinaryIO, watch: Watch, is_in_order: bool) -> int:
     """Runs each work of a command in a process of its own, at most `most` at a time. Returns the largest exit status.
 
     Writes their outputs in the order of the works, or as they end. Until then they are in temporary files. A work that
@@ -55,12 +53,6 @@ def run_side_by_side(
     """
     with temporary_folder() as folder, contextlib.closing(_Workers(name, works, folder, watch)) as workers:
         return workers.run_all(most, output, is_in_order)
-
-
-def failure(name: str, error: Error) -> int:
-    """Reports an exception that ends a command on one line, and returns the exit status."""
-    report(name, printable(str(error).partition("\n")[0]))
-    return FAILED
 
 
 class _Workers:

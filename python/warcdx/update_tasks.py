@@ -1,0 +1,295 @@
+"""The tasks of warcdx-update: they index archives, write a run anew without some of them, and merge runs.
+
+A worker on another machine needs the programs, and not this package: a task is sent to it with the functions of this module.
+So this module stands on the standard library alone. All that it is given and returns is of plain values.
+"""
+import bisect
+import contextlib
+import json
+import operator
+import os
+import re
+import stat
+import subprocess
+from collections import Counter
+from collections.abc import Callable, Iterator, Sequence
+from typing import IO, Optional
+
+FAULT = 1  # the exit status of the program after a damaged archive
+FIELDS = ("hosts", "years", "types", "statuses")  # of which the captures are counted
+MOST_VALUES = 100_000  # of a field in the counts of a run
+MOST_MERGED = 1000  # runs that are merged at a time: the program takes 1,024, and many systems as many open files
+_TEXT = rb'([^"\\\n]*(?:\\[^\n][^"\\\n]*)*)'  # of JSON
+_URL = rb'[^"\n]*(?:"[^\n]*?)??'  # the same followed by `", "mime": "`, with little memory for one of many quotes
+# It matches a line to its end, so that the next one begins there: to search for that takes as long as all else.
+_CAPTURE = re.compile(
+    rb'^([^ \n]*) ([0-9]{4})[0-9]{10} \{"url": "%b", "mime": "%b", "status": "%b"[^\n]*\n' % (_URL, _TEXT, _TEXT), re.MULTILINE
+)
+_NAME = b', "filename": '  # isn't in a text of JSON
+_FRONT = operator.itemgetter(slice(256))  # bytes of a value
+_PIECE = 1 << 20  # bytes
+_LARGEST = (1 << 63) - 1  # that SQLite has
+_ROOM = 1 << 16  # bytes, more than the block of a file that the program has begun
+
+Start = Callable[..., "subprocess.Popen[bytes]"]
+# The size of a file in bytes, the times of its last change and of its inode's in nanoseconds, and its inode.
+State = tuple[int, int, int, int]
+# What became of an archive: its name, its state, what the program has reported of it or nothing, and its captures.
+Indexed = tuple[str, State, str, int]
+# A file of lines: its path, its size in bytes, its captures, and those of each value of a field.
+Written = tuple[str, int, int, dict[str, "Counter[str]"]]
+
+
+class Failed(Exception):
+    """A task didn't succeed. Another try may."""
+
+
+def state_of(path: str) -> State:
+    """Returns what changes if a file does. Raises OSError, or Failed if it isn't a regular file."""
+    found = os.stat(path)
+    if not stat.S_ISREG(found.st_mode):
+        raise Failed("not a regular file")
+    return found.st_size, found.st_mtime_ns & _LARGEST, found.st_ctime_ns & _LARGEST, found.st_ino & _LARGEST
+
+
+def index_archives(
+    program: str, folder: str, names: Sequence[str], output: str, words: Sequence[str] = (), start: Start = subprocess.Popen
+) -> tuple[Written, list[Indexed]]:
+    """Indexes archives by one run of the program with these words, into a new file whose path begins with `output`.
+
+    `names` are their paths below `folder`. All are in the same folder, whose path stands in the index before their file names.
+    Raises Failed or OSError, and then leaves no file. Several of which one can't be read fail together.
+    """
+    states = [state_of(os.path.join(folder, name)) for name in names]
+    with _new(output) as file:
+        lines = _Lines(file, names)
+        with _running((program, "index", *words, *(f"./{name}" for name in names)), folder, start) as (process, said):
+            assert process.stdout is not None
+            for piece in _whole_lines(process.stdout):
+                lines.write(piece)
+            status, causes = _wait(process), _causes_of(said, names)
+        if status not in (0, FAULT) or status and not any(causes.values()):
+            raise Failed(causes.get(names[0] if len(names) == 1 else "") or f"{program} has ended with status {status}")
+        if [state_of(os.path.join(folder, name)) for name in names] != states:
+            raise Failed("the archive was changed while it was indexed")
+        written = lines.end()
+        return written, [(name, state, causes[name], lines.captures[name]) for name, state in zip(names, states)]
+
+
+def merge_runs(
+    program: str, folder: str, runs: Sequence[tuple[str, Optional[list[str]]]], output: str, start: Start = subprocess.Popen
+) -> tuple[str, int, list[Written]]:
+    """Merges runs of a folder, some of them without the lines of others than archives of these names.
+
+    Returns the path of the new file, which begins with `output`, its size, and what is left of those runs. The program reads each run
+    as a check does.
+    """
+    if len(runs) == 1 and runs[0][1] is not None:
+        only = _filter(os.path.join(folder, runs[0][0]), runs[0][1], output)
+        return only[0], only[1], [only]
+    filtered, files = [], []
+    with contextlib.ExitStack() as stack:
+        for file, names in runs:
+            if names is not None:
+                filtered.append(_filter(os.path.join(folder, file), names, output))
+                stack.callback(os.remove, filtered[-1][0])
+            files.append(file if names is None else os.path.basename(filtered[-1][0]))
+        while len(files) > MOST_MERGED:
+            path, _ = _merge((program, "merge", *files[:MOST_MERGED]), folder, output, start)
+            stack.callback(os.remove, path)
+            files[:MOST_MERGED] = [os.path.basename(path)]
+        path, size = _merge((program, "merge", *files), folder, output, start)
+    return path, size, filtered
+
+
+def _filter(path: str, names: Sequence[str], output: str) -> Written:
+    kept = frozenset(map(_json_of, names))
+    with open(path, "rb") as run, _new(output) as file:
+        lines = _Lines(file)
+        for piece in _whole_lines(run):
+            lines.write(b"".join(line for line in piece.splitlines(keepends=True) if line[line.rfind(_NAME) + len(_NAME) : -2] in kept))
+        return lines.end()
+
+
+def _merge(command: Sequence[str], folder: str, output: str, start: Start) -> tuple[str, int]:
+    """Merges indexes, or none, into a new file, and returns its path and size."""
+    with _new(output) as file:
+        if len(command) > 2:
+            with _running(command, folder, start, file) as (process, said):
+                if status := _wait(process):
+                    file.seek(0, os.SEEK_END)
+                    file.write(bytes(_ROOM))  # raises the error of a file that takes no more bytes, which the program doesn't print
+                    file.flush()
+                    raise Failed(_text_of(said) or f"{command[0]} has ended with status {status}")
+        return file.name, file.seek(0, os.SEEK_END)
+
+
+class _Lines:
+    """Lines of a run, which are counted as they are written, by host, year, type and status, and by archives of these names."""
+
+    def __init__(self, file: IO[bytes], names: Sequence[str] = ()) -> None:
+        self.captures = dict.fromkeys(names, 0)
+        self._file = file
+        self._size = self._lines = 0
+        self._tails = {name: _NAME + _json_of(name) + b"}\n" for name in names}
+        self._folder = _json_of(f"{os.path.dirname(names[0])}/")[:-1] if names and "/" in names[0] else b""
+        self._counts: dict[str, Counter[bytes]] = {field: Counter() for field in FIELDS}
+
+    def write(self, lines: bytes) -> None:
+        """Writes lines in which the file name of an archive is without the path of its folder."""
+        if not lines:
+            return
+        found, number = _CAPTURE.findall(lines), lines.count(b"\n")
+        if len(found) != number or lines.count(_NAME) != number:
+            raise Failed("the program has written a line that isn't one of an index")
+        if self._folder:
+            lines = lines.replace(_NAME + b'"', _NAME + self._folder)
+        tails = self._tails.items()
+        ends = Counter[bytes](line[line.rfind(_NAME) :] for line in lines.splitlines(keepends=True) if len(tails) > 1)
+        for name, tail in tails:
+            self.captures[name] += ends[tail] if ends else lines.count(tail)
+        self._count(*zip(*found))
+        self._file.write(lines)
+        self._size += len(lines)
+        self._lines += number
+
+    def end(self) -> Written:
+        """Returns what was written. Raises Failed if there are lines of other archives."""
+        if self.captures and sum(self.captures.values()) != self._lines:
+            raise Failed("the program has written a line with another file name")
+        counts: dict[str, Counter[str]] = {field: Counter() for field in FIELDS}
+        for field, counter in self._counts.items():
+            for value, count in counter.items():
+                counts[field][_value_of(value)] += count
+        return self._file.name, self._size, self._lines, counts
+
+    def _count(self, keys: Sequence[bytes], years: Sequence[bytes], types: Sequence[bytes], statuses: Sequence[bytes]) -> None:
+        add_hosts(self._counts["hosts"], keys)
+        for field, values in (("years", years), ("types", types), ("statuses", statuses)):
+            self._counts[field].update(map(_FRONT, values))
+        for field, counter in self._counts.items():
+            if len(counter) > MOST_VALUES:
+                self._counts[field] = _most_of(counter, MOST_VALUES // 2)
+
+
+def _most_of(counter: "Counter[bytes]", number: int) -> "Counter[bytes]":
+    """Returns this number of values, those with the most captures, and of equal ones the first."""
+    return Counter(dict(sorted(counter.items(), key=lambda each: (-each[1], each[0]))[:number]))
+
+
+def _value_of(front: bytes) -> str:
+    """Returns the value whose text of JSON begins so."""
+    text = front.decode(errors="ignore")
+    with contextlib.suppress(ValueError):  # the last escape is cut
+        return str(json.loads(f'"{text}"'))
+    return text
+
+
+def add_hosts(hosts: "Counter[bytes]", keys: Sequence[bytes]) -> None:
+    """Counts the hosts of URL keys, which are sorted, so that those of a host follow one another."""
+    at = 0
+    while at < len(keys):
+        front, slash, _ = keys[at].partition(b")/")
+        end = bisect.bisect_left(keys, front + b")0", at + 1) if slash else at + 1  # `0` is the byte behind `/`
+        hosts[_FRONT(_host_of(front + slash))] += end - at
+        at = end
+
+
+def _host_of(front: bytes) -> bytes:
+    """Returns the host with its port of a URL key that begins so, up to the first `)/`. Of another key it is the scheme."""
+    labels = front[:-2]
+    if not front.endswith(b")/") or b")" in labels:
+        return front.partition(b":")[0] + b":"
+    if labels.startswith(b"["):
+        return labels
+    host, colon, port = labels.partition(b":")
+    return b".".join(reversed(host.split(b","))) + colon + port
+
+
+def _json_of(name: str) -> bytes:
+    return json.dumps(name, ensure_ascii=False).encode()
+
+
+@contextlib.contextmanager
+def _new(front: str) -> Iterator[IO[bytes]]:
+    """Opens a file that is made now, and whose path begins so. It is on the disk at the end, or isn't there.
+
+    Its name is another one if a cluster runs a task again whose worker is gone.
+    """
+    path = f"{front}-{os.urandom(8).hex()}"
+    with open(path, "xb") as file:
+        try:
+            yield file
+            file.flush()
+            os.fsync(file.fileno())
+        except BaseException:
+            os.remove(path)
+            raise
+
+
+@contextlib.contextmanager
+def _running(
+    command: Sequence[str], folder: str, start: Start, output: "int | IO[bytes]" = subprocess.PIPE
+) -> Iterator[tuple["subprocess.Popen[bytes]", IO[bytes]]]:
+    """Runs a program in a folder, and yields it and its standard error. It has ended at the end.
+
+    What it says is held in memory: on a full disk the later ones of its messages would be lost.
+    """
+    with open(os.memfd_create("said"), "w+b") as said:
+        try:
+            process = start(command, cwd=folder, stdin=subprocess.DEVNULL, stdout=output, stderr=said)
+        except OSError as error:
+            raise Failed(": ".join(filter(None, (error.filename, error.strerror)))) from None
+        with process:
+            try:
+                yield process, said
+            finally:
+                process.kill()
+
+
+def _wait(process: "subprocess.Popen[bytes]") -> int:
+    """Waits for a program to end, and returns its status. Raises Failed if the system doesn't give it.
+
+    That is so if this process ignores SIGCHLD. Popen.wait returns 0 then.
+    """
+    with contextlib.suppress(ChildProcessError):
+        os.waitid(os.P_PID, process.pid, os.WEXITED | os.WNOWAIT)
+        return process.wait()
+    if process.returncode is None:
+        raise Failed("the system hasn't given the status of the program")
+    return process.returncode
+
+
+def _whole_lines(file: IO[bytes]) -> Iterator[bytes]:
+    """Yields what a program writes or a file has, in pieces that end with a line."""
+    rest = b""
+    while piece := file.read(_PIECE):
+        lines, end, after = piece.rpartition(b"\n")
+        if end:
+            yield rest + lines + end
+            rest = after
+        else:
+            rest += piece
+    if rest:
+        raise Failed("the last line isn't whole")
+
+
+def _causes_of(said: IO[bytes], names: Sequence[str]) -> dict[str, str]:
+    """Returns what a program has reported of each archive, without the names of both. Raises Failed if it has said more of several."""
+    text = _text_of(said)
+    if len(names) == 1:
+        return {names[0]: text.partition(f": ./{names[0]}: ")[2] or text}
+    causes = dict.fromkeys(names, "")
+    for line in filter(None, text.split("\n")):
+        name, _, cause = line.partition(": ./")[2].rpartition(": ")
+        if name not in causes:
+            raise Failed(text)
+        causes[name] = cause
+    return causes
+
+
+def _text_of(said: IO[bytes]) -> str:
+    """Returns what a program has said, without the second lines of its messages, which begin with two spaces."""
+    said.seek(0)
+    lines = said.read().decode(errors="replace").split("\n")
+    return "\n".join(line for line in lines if line and not line.startswith("  "))
