@@ -37,7 +37,7 @@ from warcdx_gateway.application import Gateway  # noqa: E402
 from warcdx_gateway.collection import Collection  # noqa: E402
 from warcdx_gateway.generation import Generation  # noqa: E402
 from warcdx_gateway.settings import CollectionSettings, Settings  # noqa: E402
-from warcdx_gateway.shared import Board, Metrics, Shares  # noqa: E402
+from warcdx_gateway.shared import Board, Metrics  # noqa: E402
 
 PROGRAM = os.environ.get("WARCDX", "warcdx")
 SAMPLES = GATEWAY.parent / "samples"
@@ -187,16 +187,13 @@ class Archives:
 
 def gateway_of(test: unittest.TestCase, settings: Settings) -> Gateway:
     """Returns a gateway over these settings, which is closed at the end of the test."""
-    folder = tempfile.TemporaryDirectory()
-    test.addCleanup(folder.cleanup)
     collections = {
         each.name: Collection(each, settings, Generation(each.indexes))
         for each in settings.collections
     }
     for each in collections.values():
         test.addCleanup(each.close)
-    shares = Shares(pathlib.Path(folder.name), workers=8, wide=4)
-    return Gateway(settings, collections, shares, metrics(), Board(1024))
+    return Gateway(settings, collections, metrics(), Board(1024), Board(1024))
 
 
 @functools.cache

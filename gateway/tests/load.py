@@ -158,7 +158,7 @@ def main() -> int:
     with tempfile.TemporaryDirectory() as folder:
         case.folder = pathlib.Path(folder)
         case.put(support.lines(COUNT))
-        server = case.start(head="workers = 8\n")
+        server = case.start(head="workers = 8\n", program=support.PROGRAM)
         try:
             measure(server, case.folder, given.seconds, report)
         finally:

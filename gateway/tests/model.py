@@ -11,7 +11,7 @@ from urllib.parse import quote_plus
 FIELDS = (
     "urlkey", "timestamp", "original", "mimetype", "statuscode", "digest", "length", "offset", "filename"
 )  # fmt: skip
-PAGE = 3000  # captures, the documented size of a page of one block
+PAGE = 900_000  # bytes of lines, the documented size of a page of one block
 Capture = dict[str, str]
 
 
@@ -80,7 +80,9 @@ def place(capture: Capture) -> str:
 
 
 def seconds(timestamp: str) -> float:
-    moment = timestamp + "00000101000000"[len(timestamp) :]
+    last = {4: "1231", 6: "31" if timestamp[4:6] in ("01", "03", "05", "07", "08", "10", "12") else "30"}
+    moment = timestamp + last.get(len(timestamp), "")
+    moment += "235959"[max(len(moment) - 8, 0) :]
     return datetime.datetime.strptime(moment, "%Y%m%d%H%M%S").timestamp()
 
 
@@ -133,6 +135,34 @@ def selected(request: Request, captures: list[Capture]) -> list[Capture]:
     return found if request.after is None else found[1:]
 
 
+def line_of(capture: Capture) -> str:
+    """Returns the line of a capture in an index."""
+    members = dict(zip(("url", "mime", "status", "digest", "length", "offset", "filename"), list(capture.values())[2:]))
+    return f"{capture['urlkey']} {capture['timestamp']} {json.dumps(members)}\n"
+
+
+def lines_of(request: Request, captures: list[Capture]) -> list[Capture]:
+    """Returns the captures whose lines are on pages: from the first one that matches on, with what is between."""
+    bounds = {"exact": (request.target, request.target), "prefix": (request.target, request.target + "\U0010ffff")}
+    low, high = bounds.get(request.match, (f"{request.target})", f"{request.target}:\U0010ffff"))
+    matching = [each["urlkey"] for each in captures if matches(each["urlkey"], request.target, request.match)]
+    found = [each for each in captures if low <= each["urlkey"] <= high and matching and each["urlkey"] >= matching[0]]
+    if request.match != "exact":
+        return found
+    first, last = request.first, request.last or "9"
+    return [each for each in found if first <= each["timestamp"] and each["timestamp"][: len(last)] <= last]
+
+
+def pages_of(request: Request, captures: list[Capture]) -> tuple[int, dict[tuple[str, str], int]]:
+    """Returns the number of pages, and the page of each key and timestamp."""
+    pages: dict[tuple[str, str], int] = {}
+    before = 0
+    for each in lines_of(request, captures):
+        pages.setdefault((each["urlkey"], each["timestamp"]), before // PAGE)
+        before += len(line_of(each).encode())
+    return -(-before // PAGE), pages
+
+
 def order_of(capture: Capture) -> tuple[bytes, str, bytes, int]:
     return (
         capture["urlkey"].encode(),
@@ -146,10 +176,11 @@ def answer(request: Request, captures: list[Capture]) -> str:
     """Returns the text of the answer to a request."""
     found = selected(request, captures)
     whole = len(found)
+    count, pages = pages_of(request, captures)
     if request.counts_pages:
-        return f"{-(-whole // PAGE)}\n"
+        return f"{count}\n"
     if request.page is not None:
-        found = found[request.page * PAGE : (request.page + 1) * PAGE]
+        found = [each for each in found if pages[each["urlkey"], each["timestamp"]] == request.page]
     if request.order == "last" and request.limit is not None:
         found = found[-request.limit :]
     elif request.order == "reverse":

@@ -1,5 +1,7 @@
 """The pages in headless Chromium: the way to a payload, the keyboard, names, hostile pages."""
 import asyncio
+import contextlib
+import socket
 import unittest
 from collections.abc import Sequence
 from unittest import mock
@@ -32,6 +34,7 @@ class Browsing(support.Pages, unittest.IsolatedAsyncioTestCase):
             revisit(HOME, "2016-12-31T23:59:59Z", SECOND, "2016-03-03T10:00:00Z"),
             response(HOME, "2018-07-01T00:00:00Z", b"gone", "text/plain", status="410 Gone"),
             response(HOME + "a-long-address/" * 12, "2016-04-01T00:00:00Z", FIRST),
+            *(response(HOME + "years", f"{year}-04-01T00:00:00Z", FIRST) for year in range(1998, 2024)),
         ])  # fmt: skip
 
     def address(self, path: str = "/browse") -> str:
@@ -41,13 +44,12 @@ class Browsing(support.Pages, unittest.IsolatedAsyncioTestCase):
         async with browser() as tab:
             await tab.send("Emulation.setScriptExecutionDisabled", value=True)
             await tab.open(self.address())
-            await tab.click("main a")
-            self.assertIn("Search for an address or a host", await tab.text())
+            self.assertIn("Search for a URL or a host", await tab.text())
             await tab.press_mouse("#url")
             await tab.type("example.com")
             await tab.click("button")
             self.assertIn("4 captures between 3 March 2016 and 1 July 2018.", await tab.text())
-            await tab.click("svg.years a[aria-label^='2016']")
+            await tab.click(".years a[aria-label^='2016']")
             self.assertIn("2016: 3 captures", await tab.text())
             await tab.click("svg.month a[aria-label^='Thursday, 3 March']")
             self.assertIn("Captures on 3 March 2016", await tab.text())
@@ -75,14 +77,14 @@ class Browsing(support.Pages, unittest.IsolatedAsyncioTestCase):
             await tab.open(self.address("/crawl/browse/search?url=example.com&year=2016"))
             self.assertEqual(
                 [
-                    "Skip to the content", "Collections", "A crawl", "Address or host", "Match",
-                    "From", "To", "Search", "2016: 3 captures", "2018: 1 capture",
+                    "Skip to the content", "A crawl", "URL or host", "Search", "Match and times",
+                    "2016: 3 captures", "2018: 1 capture",
                     "The years as a table",
                     "Thursday, 3 March 2016: 2 captures", "Saturday, 31 December 2016: 1 capture",
                     "The days as a table",
                     "Record of 3 March 2016, 09:34:31",
                 ],
-                [await tab.tab() for _ in range(15)],
+                [await tab.tab() for _ in range(12)],
             )  # fmt: skip
             await tab.open(self.address("/crawl/browse/search?url=example.com&year=2016"))
             while await tab.tab() != "Saturday, 31 December 2016: 1 capture":
@@ -118,7 +120,7 @@ class Browsing(support.Pages, unittest.IsolatedAsyncioTestCase):
                 self.assertIn(name, groups)
             self.assertIn("April 2016: no captures", await tab.named("image"))
             self.assertEqual(["Captures in 2016"], await tab.named("table"))
-            self.assertEqual(["Address or host", "From", "To"], await tab.named("textbox"))
+            self.assertEqual(["URL or host"], await tab.named("textbox"))
             self.assertEqual(
                 ["first: 3 March 2016, 09:34:31", "second: 3 March 2016, 09:34:31"],
                 (await tab.named("radio"))[:2],
@@ -132,6 +134,32 @@ class Browsing(support.Pages, unittest.IsolatedAsyncioTestCase):
                 self.assertNotIn("", names)
             await tab.evaluate("document.querySelectorAll('details').forEach(e => e.open = true)")
             self.assertIn("Captures of each day of 2016", await tab.named("table"))
+            self.assertEqual(["URL or host", "From", "To"], await tab.named("textbox"))
+
+    async def test_the_chosen_year_is_seen_in_a_narrow_window(self) -> None:
+        place = "e => { const at = e.getBoundingClientRect(); return [at.left, at.right]; }"
+        places = f"['.scroll', 'svg.chosen'].map(name => document.querySelector(name)).map({place})"
+        scrolled = "document.querySelector('.scroll').scrollLeft"
+        async with browser() as tab:
+            await tab.window(400, 800, "light")
+            for year in (1998, 2010, 2023):
+                await tab.open(self.address(f"/crawl/browse/search?url=example.com/years&year={year}"))
+                (left, right), (first, last) = await tab.evaluate(places)
+                self.assertTrue(left <= first < last <= right + 1, (year, left, right, first, last))
+            await asyncio.sleep(0.2)
+            await tab.evaluate(f"{scrolled} = 100")
+            self.assertEqual(100, await tab.evaluate(scrolled))
+
+    async def test_the_form_is_one_line(self) -> None:
+        tops = "['#url', 'form button', 'form details'].map(e => document.querySelector(e).getBoundingClientRect().bottom)"
+        async with browser() as tab:
+            await tab.window(1280, 900, "light")
+            await tab.open(self.address("/crawl/browse/"))
+            found = await tab.evaluate(tops)
+            self.assertLess(max(found) - min(found), 20, found)
+            self.assertFalse(await tab.evaluate("document.querySelector('form details').open"))
+            await tab.open(self.address("/crawl/browse/search?url=example.com&from=2016"))
+            self.assertTrue(await tab.evaluate("document.querySelector('form details').open"))
 
     async def test_the_pages_fit_and_follow_the_scheme_of_colours(self) -> None:
         offsets = {"first": 0, "second": self.offset_of_second()}
@@ -180,8 +208,20 @@ class Hostile(support.Pages, unittest.IsolatedAsyncioTestCase):
         self.reached: list[str] = []
         self.is_attacking = False
         self.evil = self.enterContext(support.served(self.trap))
+        self.listener = self.enterContext(socket.create_server(("127.0.0.1", 0)))
+        self.listener.setblocking(False)
+        self.deaf = "http://127.0.0.1:%d" % self.listener.getsockname()[1]  # counts connections
         super().setUp()
         self.root = self.enterContext(support.served(self.gateway))
+
+    def connections(self) -> int:
+        """Returns how many connections there were, also without a request."""
+        count = 0
+        with contextlib.suppress(BlockingIOError):
+            while True:
+                self.listener.accept()[0].close()
+                count += 1
+        return count
 
     @Request.application
     def trap(self, request: Request) -> Response:
@@ -189,6 +229,21 @@ class Hostile(support.Pages, unittest.IsolatedAsyncioTestCase):
         if self.is_attacking and request.path == "/attack":
             return Response(self.attacks().replace(b"0;url", b"2;url"), content_type="text/html")
         return Response("<script>top.hacked = 1</script>", content_type="text/html")
+
+    @property
+    def hidden(self) -> list[tuple[bytes, str]]:
+        """Pages with tags that are read in one character set only, and the types of the pages."""
+        tag = f"<!DOCTYPE html><title>x</title><link rel=preconnect href={self.deaf}><p>x"
+        escapes = tag.replace("<link", "<li\x1b(Bnk").encode()
+        return [
+            (tag.encode(), "text/html"), (tag.encode("utf-16"), "text/html"), (tag.encode("utf-16-le"), "text/html; charset=utf-16"),
+            (tag.encode("utf-16-be"), "text/html; charset=utf-16be"), (escapes, "text/html; charset=iso-2022-jp"),
+            (b"<meta charset=iso-2022-jp>" + escapes, "text/html"), (escapes + "\x1b$B".encode() * 200, "text/html"),
+            (tag.replace("<link", "<link title='>'").encode(), "text/html"), (tag.encode(), "application/xhtml+xml"),
+            (tag.replace("rel=", "rel=alternate rel=").encode(), "text/html"), (tag.replace("rel", "&#114;el").encode(), "text/html"),
+            (tag.replace("preconnect", "pre&#99;onnect").encode(), "text/html"), (tag.replace("<link ", "<link\x0c").encode(), "text/html"),
+            (f"<html xmlns='http://www.w3.org/1999/xhtml'><link rel='preconnect' href='{self.deaf}'/></html>".encode(), "text/xml"),
+        ]  # fmt: skip
 
     def fill(self, archives: Archives) -> None:
         html = self.attacks()
@@ -198,6 +253,11 @@ class Hostile(support.Pages, unittest.IsolatedAsyncioTestCase):
             response(HOME + "image", date, html, "image/png"),
             response(HOME + "svg", date, self.svg(), "image/svg+xml"),
             response(HOME + "xml", date, self.svg(), "application/xhtml+xml"),
+            response(HOME + "linked", date, f"<p><a target=_blank href={HOME}hidden0>A link</a>".encode()),
+            *(
+                response(f"{HOME}hidden{number}", date, body, kind)
+                for number, (body, kind) in enumerate(self.hidden)
+            ),
             response(
                 HOME + "split",
                 date,
@@ -214,6 +274,9 @@ class Hostile(support.Pages, unittest.IsolatedAsyncioTestCase):
 <meta http-equiv=Content-Security-Policy content="default-src * 'unsafe-inline'">
 <link rel=stylesheet href={evil}/style><link rel=icon href={evil}/icon>
 <link rel=prefetch href={evil}/prefetch><link rel=preconnect href={evil}>
+<link rel=preconnect href={self.deaf}><LINK/REL='preconnect'/HREF={self.deaf}>
+<link rel="stylesheet preconnect" href={evil}/both><link x='>' rel=preconnect href={self.deaf}>
+<svg><link rel=preconnect href={self.deaf}></svg>
 <link rel=dns-prefetch href=//evil.example>
 <style>@import url({evil}/import); @font-face {{ font-family: f; src: url({evil}/font) }}
 p {{ font-family: f; background: url({evil}/background) }}
@@ -279,7 +342,7 @@ setTimeout(() => {{ top.location = "{evil}/top" }}, 5000)</script>
             self.assertIn("payload?", await tab.evaluate("location.href"))
             self.assertEqual("null", await tab.evaluate("self.origin"))
             self.assertIsNone(await tab.evaluate("window.hacked"))
-            self.assertEqual([], self.reached)
+            self.assertEqual(([], 0), (self.reached, self.connections()))
 
     async def test_a_capture_as_it_was_archived_gets_nowhere(self) -> None:
         async with browser() as tab:
@@ -287,10 +350,32 @@ setTimeout(() => {{ top.location = "{evil}/top" }}, 5000)</script>
                 url = f"{self.root}/crawl/20160303000000id_/{HOME}{name}"
                 await tab.open(url)
                 await asyncio.sleep(0.5)
-                self.assertEqual(url, await tab.evaluate("location.href"))
+                shown = url if name == "svg" else url.replace("id_/", "/")
+                self.assertEqual(shown, await tab.evaluate("location.href"))
                 self.assertEqual("null", await tab.evaluate("self.origin"))
                 self.assertIsNone(await tab.evaluate("window.hacked"), name)
-                self.assertEqual([], self.reached, name)
+                self.assertEqual(([], 0), (self.reached, self.connections()), name)
+
+    async def test_pages_connect_to_no_server(self) -> None:
+        """Whatever character set hides their tags."""
+        async with browser() as tab:
+            for number in range(len(self.hidden)):
+                for mark in ("id_", ""):
+                    await tab.open(f"{self.root}/crawl/20160303000000{mark}/{HOME}hidden{number}")
+                    await asyncio.sleep(0.4)
+                    self.assertEqual(([], 0), (self.reached, self.connections()), self.hidden[number][1])
+
+    async def test_a_link_of_a_capture_leads_to_a_capture(self) -> None:
+        async with browser() as tab:
+            await tab.open(f"{self.root}/crawl/2016/{HOME}linked")
+            await tab.press_mouse("a", 0.5, 0.5)
+            wanted = f"{self.root}/crawl/20160303000000/{HOME}hidden0"
+            for _ in range(50):
+                if await tab.evaluate("location.href") == wanted:
+                    break
+                await asyncio.sleep(0.1)
+            self.assertEqual(wanted, await tab.evaluate("location.href"))
+            self.assertEqual(([], 0), (self.reached, self.connections()))
 
     async def test_the_same_pages_act_without_the_policy(self) -> None:
         """Shows that the attacks of these tests work, if nothing holds them."""
@@ -301,6 +386,7 @@ setTimeout(() => {{ top.location = "{evil}/top" }}, 5000)</script>
                 lambda: {"/script", "/fetch", "/image", "/style", "/frame", "/refresh"}
                 <= set(self.reached)
             )
+            self.assertGreater(self.connections(), 0)
             for link in ("upper", "lower"):
                 await tab.open(self.evil + "/attack")
                 self.assertEqual(1, await tab.evaluate("window.hacked"))
@@ -313,7 +399,7 @@ setTimeout(() => {{ top.location = "{evil}/top" }}, 5000)</script>
         self.assertTrue(
             (await tab.evaluate("document.title")).startswith("Record of 3 March 2016"), name
         )
-        self.assertEqual([], self.reached, name)
+        self.assertEqual(([], 0), (self.reached, self.connections()), name)
         sent = {
             event["request"]["url"].partition("?")[0]
             for event in tab.events("Network.requestWillBeSent")

@@ -9,7 +9,7 @@ from . import browse_support as support
 from .browse_support import Archives, response, revisit
 
 from warcdx_gateway.browse import embedding
-from warcdx_gateway.browse.embedding import MOST_BYTES, filled, styled
+from warcdx_gateway.browse.embedding import MOST_BYTES, filled, page_text, styled
 
 HOME = "http://example.com/a/page"
 DATE, OLD = "2016-03-03T09:34:31Z", "2010-01-01T00:00:00Z"
@@ -37,7 +37,10 @@ class Filling(unittest.TestCase):
             ("<img src=http://evil.example/x>", "<img src=http://evil.example/x>"),
             ("<img src=b srcset='c 2x'>", f'<img src="{image},{base}/a/b" srcset="">'),
             ("<link rel=stylesheet href=s>", f'<link rel=stylesheet href="{style},{base}/a/s">'),
-            ("<link rel=next href=s.css>", "<link rel=next href=s.css>"),
+            ("<link rel=next href=s.css>", ""),
+            ("a<LINK/rel=preconnect href=//evil.example>b", "ab"),
+            ("<link rel=\"stylesheet preload\" href=s>c", "c"),
+            ("<link rel=preconnect x=" + "y" * 70_000 + ">d", "d"),
             ("<a href=b.png>", "<a href=b.png>"),
             ("<script src=b.js>", "<script src=b.js>"),
             ("<base href='/c/'><img src=b>", f"<base href='/c/'><img src=\"{image},{base}/c/b\">"),
@@ -50,6 +53,43 @@ class Filling(unittest.TestCase):
              f'<table style="background:url({image},{base}/a/b)">'),
         ):  # fmt: skip
             self.assertEqual(wanted.encode(), filled(given.encode(), HOME, named), given)
+
+    def test_links_lead_to_captures(self) -> None:
+        def linked(url: str) -> str:
+            return f"/web/2016/{url}"
+
+        front = "/web/2016/http://example.com"
+        for given, wanted in (
+            ("<a href=b>", f'<a href="{front}/a/b">'),
+            ("<A class=x HREF='/b?c&amp;d#e' target=_blank>", f'<A class=x href="{front}/b?c&amp;d#e" >'),
+            ("<area href=//example.com/>", f'<area href="{front}/">'),
+            ("<a href='#part'>", "<a href='#part'>"),
+            ("<base target=_top href=/c/><a href=b>", f'<base  href=/c/><a href="{front}/c/b">'),
+            ("<abbr href=b>", "<abbr href=b>"),
+            ("<a name=b>", "<a name=b>"),
+        ):
+            found = filled(given.encode(), HOME, lambda url, kind: None, linked)
+            self.assertEqual(wanted.encode(), found, given)
+        self.assertEqual(b"<a href=b target=c>", filled(b"<a href=b target=c>", HOME, named))
+
+    def test_a_page_is_read_as_a_browser_reads_it(self) -> None:
+        """Otherwise a tag may be one that only the browser sees."""
+        for content, charset, wanted in (
+            ("<p>é".encode(), None, "<p>é"),
+            ("<p>é".encode()[:-1], None, "<p>Ã"),
+            ("<p>é€".encode("windows-1252"), None, "<p>é€"),
+            ("<p>€".encode("windows-1252"), "iso-8859-1", "<p>€"),
+            ("<p>я".encode("koi8-r"), "koi8-r", "<p>я"),
+            ("<meta charset=koi8-r><p>я".encode("koi8-r"), None, "<meta charset=koi8-r><p>я"),
+            ("<link>".encode("utf-16"), None, "<link>"),
+            ("<link>".encode("utf-16"), "koi8-r", "<link>"),
+            ("<link>".encode("utf-16-be"), "utf-16be", "<link>"),
+            (b"<li\x1b(Bnk>", "iso-2022-jp", "<link>"),
+            (b"<meta charset=punycode><p>", None, "<meta charset=punycode><p>"),
+            (b"<meta charset=utf-16><p>", None, "<meta charset=utf-16><p>"),
+            (b"\xef\xbb\xbf<p>", "koi8-r", "<p>"),
+        ):
+            self.assertEqual(wanted, page_text(content, charset), content)
 
     def test_a_style_sheet_has_its_imports(self) -> None:
         for given, wanted in (
@@ -66,11 +106,11 @@ class Filling(unittest.TestCase):
             b"<link rel=stylesheet ", b"<style>url(", b"<img src='", b'<img src="',
             b"<base href=a/>",
             b"<table style=url(", b"<td style='url(a", b"&#", b" src", b" src ", b'@import "',
-            b"@import  ",
+            b"@import  ", b"<a href=b>", b"<a ", b"<link rel=", b"<a href='",
         ):  # fmt: skip
             for before in (b"", b"<style>", b"<img "):
                 start = time.process_time()
-                filled(before + part * (LONG // len(part)), HOME, lambda url, kind: None)
+                filled(before + part * (LONG // len(part)), HOME, lambda url, kind: None, str)
                 self.assertLess(time.process_time() - start, 5, (before, part))
 
 

@@ -1,4 +1,5 @@
 """Archives and indexes of which an attacker has written every byte."""
+import dataclasses
 import gzip
 import os
 import time
@@ -6,6 +7,8 @@ import tracemalloc
 import unittest
 from unittest import mock
 from urllib.parse import urlencode
+
+from werkzeug.test import Client
 
 from . import browse_support as support
 from .browse_support import MEGABYTE, Archives, bomb, page, record, response, text_of
@@ -137,6 +140,14 @@ class Indexes(support.Pages):
                 found = self.get(path, 404, **NAMED, archive=name, offset=0)
                 self.assertNotIn("secret", found, name)
 
+    def test_links_lead_to_the_folders_of_the_settings(self) -> None:
+        place = {**NAMED, "archive": "link.warc", "offset": "0"}
+        none, other = "has no archive of this name", "No record of the archive begins at this offset"
+        for links, why in (((), none), ((self.archives.archives / "below",), none), ((self.archives.folder,), other)):
+            settings = dataclasses.replace(self.archives.collection(), links=links)
+            found = Client(self.serve(settings)).get("/crawl/browse/record", query_string=place)
+            self.assertIn(why, found.text)  # the line of the index has the length of another record
+
     def test_offsets_are_numbers(self) -> None:
         for offset, status in (
             ("1", 502), ("2", 404), ("9223372036854775807", 404), ("9223372036854775808", 400),
@@ -263,7 +274,7 @@ class Records(support.Pages):
             ("html", "text/html; charset=utf-8"),
             ("image", "image/png"),
             ("svg", "text/plain; charset=utf-8"),
-            ("charset", "text/html"),
+            ("charset", "text/html; charset=utf-8"),
             ("script", "text/plain; charset=utf-8"),
             ("quotes", "text/plain; charset=utf-8"),
         ):
@@ -381,17 +392,6 @@ class Records(support.Pages):
                 )
                 self.assertIn("sandbox", answer.headers["Content-Security-Policy"])
 
-    def test_a_download_has_a_slot_until_it_is_closed(self) -> None:
-        query = self.named("bomb")
-        with mock.patch("warcdx_gateway.shared.WAIT", 0.05):
-            downloads = [self.ask("download", what="payload", **query) for _ in range(4)]
-            self.get("download", 503, what="payload", **query)
-            self.assertEqual("1", self.ask("record", **query).headers["Retry-After"])
-            for each in downloads:
-                each.close()
-            for _ in range(6):
-                self.get("download", 422, what="payload", **self.named("cut-head"))
-            self.assertEqual(200, self.ask("download", what="payload", **query).status_code)
 
 if __name__ == "__main__":
     unittest.main()

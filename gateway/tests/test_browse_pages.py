@@ -82,6 +82,7 @@ class Reading(support.Pages):
             ("/three/browse/", 404),
             ("/browse/style.css", 200),
             ("/browse/icon.svg", 200),
+            ("/favicon.ico", 200),
         ):
             answer = client.get(path)
             options = answer.headers["X-Content-Type-Options"]
@@ -93,7 +94,16 @@ class Reading(support.Pages):
             answer = self.client.get(path)
             self.assertEqual(308, answer.status_code)
             self.assertEqual(page_path, urljoin(path, answer.headers["Location"]))
-            self.assertEqual(200, self.client.get(page_path).status_code)
+        self.assertEqual(200, self.client.get("/crawl/browse/").status_code)
+
+    def test_one_collection_alone_has_no_list(self) -> None:
+        for path in ("/", "/browse"):
+            answer = self.client.get(path, headers={"Accept": "text/html"})
+            self.assertEqual((303, "crawl/browse/"), (answer.status_code, answer.headers["Location"]))
+        self.assertEqual("/crawl/cdx\tA crawl\n", self.client.get("/", headers={"Accept": "text/plain"}).text)
+        self.assertNotIn("Collections", self.get(""))
+        client = Client(self.serve(self.archives.collection("one", "One"), self.archives.collection("two", "Two")))
+        self.assertIn(">Collections</a>", client.get("/two/browse/").text)
 
     def test_an_address_has_years_days_and_captures(self) -> None:
         found = self.get("search", url="example.com", year="2016")
@@ -173,7 +183,7 @@ class Reading(support.Pages):
             ({"url": ""}, "Nothing was typed."),
             ({}, "Nothing was typed."),
             ({"url": "http://[x"}, "The search for “http://[x” was refused (BadUrl)."),
-            ({"url": "ftp://a.example/", "match": "host"}, "found only for web addresses"),
+            ({"url": "ftp://a.example/", "match": "host"}, "found only for web URLs"),
             ({"url": HOME, "match": "regex"}, "The match “regex” was refused."),
             ({"url": HOME, "from": "March"}, "The time “March” was refused."),
             ({"url": HOME, "to": "2016-3-1"}, "A time is a year"),
@@ -190,7 +200,7 @@ class Reading(support.Pages):
         for words in (
             "Search at any time",
             "Search the whole host",
-            "Search for addresses that begin with it",
+            "Search for URLs that begin with it",
         ):
             self.assertIn(words, found)
 
@@ -228,7 +238,7 @@ class Reading(support.Pages):
         found = self.get("record", **self.place_of(1))
         text = text_of(found)
         for words in (
-            "Response record http://example.com/",
+            "Response record of 3 March 2016, 09:34:31 http://example.com/",
             "3 March 2016, 09:34:31",
             "The block is as it was recorded",
             "The payload is as it was recorded",

@@ -26,7 +26,9 @@ class Start(support.Pages):
         archives.put("index", b"".join(sorted(lines)))
 
     def summarize(self, text: str) -> None:
-        (self.archives.folder / "index.summary.json").write_text(text)
+        folder = self.archives.folder / "index.d/current"
+        folder.mkdir(parents=True, exist_ok=True)
+        (folder / "summary.json").write_text(text)
 
     def test_a_summary_is_shown(self) -> None:
         summary = {

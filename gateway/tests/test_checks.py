@@ -8,6 +8,8 @@ import threading
 import time
 import unittest
 
+from warcdx import states
+
 from .check_support import PAGES, Checked, disorders
 from .support import connected, lines
 
@@ -171,6 +173,44 @@ class Changes(Checked):
         self.wait_for(lambda: server.metric("old_indexes") == 0, "it isn't in use")
         self.assertEqual([], self.ask_pages(server))
         self.assertEqual(["1"] * 3, self.checks())
+
+
+class Folders(Checked):
+    """An index may be a folder of runs, whose state is replaced at once."""
+
+    def show(self, number: int, *runs: tuple[str, str]) -> None:
+        """Makes a state of runs, which have names and texts."""
+        index = self.folder / "index"
+        for name in states.FOLDERS:
+            (index / name).mkdir(parents=True, exist_ok=True)
+        listed = []
+        for name, text in runs:
+            path = index / states.RUNS / f"{name}.cdxj"
+            if not path.exists():
+                path.write_text(text)
+            listed.append(states.Listed(path.name, len(text), text.count("\n")))
+        states.show(index, number, listed, {"captures": PAGES})
+
+    def test_new_runs_are_checked_and_no_others(self) -> None:
+        rows = lines(PAGES).splitlines(keepends=True)
+        front, back, last = "".join(rows[:-2]), rows[-2], rows[-1]
+        self.show(1, ("1", lines(PAGES)))
+        server = self.start(program=self.noted())
+        self.assertEqual([], self.ask_pages(server))
+        self.show(2, ("2", front), ("3", back + last))
+        self.wait_for(lambda: len(self.checks()) == 2, "it isn't checked")
+        self.wait_for(lambda: server.metric("old_indexes") == 0, "it isn't in use")
+        self.assertEqual([], self.ask_pages(server))
+        self.show(3, ("2", front), ("4", back), ("5", last))
+        self.wait_for(lambda: len(self.checks()) == 3, "it isn't checked")
+        self.wait_for(lambda: server.metric("old_indexes") == 0, "it isn't in use")
+        self.assertEqual([], self.ask_pages(server))
+        self.assertEqual(["1", "2", "2"], self.checks())
+
+    def test_no_start_over_another_folder(self) -> None:
+        (self.folder / "index").mkdir()
+        said = self.refused_start("--program", str(self.program()), "--indexes", str(self.folder / "index"))
+        self.assertEqual(said, f"warcdx-gateway: {self.folder}/index: CannotOpen (Is a directory)\n")
 
 
 if __name__ == "__main__":

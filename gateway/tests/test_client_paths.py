@@ -5,6 +5,8 @@ import urllib.error
 import urllib.request
 from xml.etree import ElementTree
 
+from warcdx_gateway.history import last_moment
+
 from .costs import processor_time
 from .support import Shared
 from .test_clients import REQUESTS, TIMES
@@ -97,10 +99,16 @@ class Paths(Shared):
         found = json.loads(self.server.ask(path).body)
         self.assertEqual((TIMES[0], TIMES[4]), (found["first_ts"], found["last_ts"]))
         self.assertEqual([1, 0, 0, 0, 0, 1, 0, 0, 0, 0, 0, 0], found["years"]["2016"])
+        # A revisit has no status, and the capture of June has 404.
+        self.assertEqual("000004000000", found["status"]["2016"])
+        self.assertEqual("200000000000", found["status"]["2017"])
 
     def test_time_maps(self) -> None:
         for path in ("/web/timemap/json/http://example.com/", "/main/timemap/json/example.com"):
             self.assertEqual(TIMES, [row[1] for row in self.rows(path)[1:]])
+        for path in ("/web/timemap/cdx/http://example.com/", "/main/timemap/cdxj/http://example.com/"):
+            self.assertEqual(TIMES, [line.split(" ")[1] for line in self.lines(path)])
+        self.assertEqual(TIMES, [row[1] for row in self.rows("/web/timemap/?url=example.com&output=json")[1:]])
         found = self.lines("/crawls/timemap/json/http://example.com/")
         self.assertEqual(TIMES, [json.loads(line)["timestamp"] for line in found])
         found = self.lines("/web/timemap/link/http://example.com/")
@@ -117,6 +125,40 @@ class Paths(Shared):
         self.assertEqual(wanted[:1], first)
         self.assertEqual(wanted[1:], self.lines(f"{query}&resumeKey={key}"))
         self.assertIn("one collapse is needed", self.refused(path))
+
+    def test_skip_counts(self) -> None:
+        query = "url=example.com&collapse=digest&showSkipCount=true&lastSkipTimestamp=true"
+        wanted = [f"{TIMES[0]} {TIMES[2]} 2", f"{TIMES[3]} {TIMES[3]} 0", f"{TIMES[4]} {TIMES[4]} 0"]
+        self.assertEqual(wanted, self.lines(f"/cdx?{query}&fl=timestamp,endtimestamp,skipcount"))
+        first = "com,example)/ 20140101000000 http://example.com/ text/html 200 AAAA 1000"
+        self.assertEqual(f"{first} {TIMES[2]} 2", self.lines(f"/cdx?{query}")[0])
+
+    def test_a_limit_above_the_largest_is_the_largest(self) -> None:
+        self.assertEqual(5, len(self.lines("/cdx?url=example.com&limit=2000000")))
+        self.assertEqual(5, len(self.lines("/cdx?url=example.com&limit=100000000000")))
+        server = self.start(head="workers = 2\n", largest=2, held=2, usual=0)
+        self.assertEqual(2, len(server.ask("/cdx?url=example.com&limit=3").text.splitlines()))
+        self.assertEqual(2, len(server.ask("/cdx?url=example.com&limit=-3").text.splitlines()))
+
+    def test_a_query_may_be_posted(self) -> None:
+        for path in ("/cdx", "/main/cdx", "/crawls/index", "/web/timemap/json"):
+            wanted = self.server.ask(f"{path}?url=example.com&fl=timestamp").body
+            for target, body in ((path, b"url=example.com&fl=timestamp"), (f"{path}?url=example.com", b"fl=timestamp")):
+                asked = urllib.request.Request(f"{self.server.url}{target}", body)
+                with urllib.request.urlopen(asked) as answer:
+                    self.assertEqual(wanted, answer.read(), path)
+        self.assertEqual(405, self.server.ask("/web/timegate/http://example.com/", method="POST").status)
+
+    def test_a_time_is_filled_to_its_end(self) -> None:
+        """Years, months and days with a digit or more; what is no date stays as near as it can."""
+        for digits, wanted in (
+            ("2", "29991231235959"), ("19", "19991231235959"), ("2016", "20161231235959"), ("20160", "20160930235959"),
+            ("20161", "20161231235959"), ("201602", "20160229235959"), ("2016022", "20160229235959"),
+            ("2015022", "20150228235959"), ("2016043", "20160430235959"), ("20160101", "20160101235959"),
+            ("201601012", "20160101235959"), ("2016010103", "20160101035959"), ("20160101030405", "20160101030405"),
+            ("20169", "20169231235959"), ("0", "09991231235959"), ("201600", "20160031235959"),
+        ):  # fmt: skip
+            self.assertEqual(wanted, last_moment(digits), digits)
 
     def test_other_words(self) -> None:
         def times(query: str) -> list[str]:
@@ -183,6 +225,17 @@ class Paths(Shared):
         self.assertEqual(["1", "2"], [each["tag"] for each in results])
         closest = [each["archived_snapshots"]["closest"] for each in results]
         self.assertEqual(["200", "404"], [each["status"] for each in closest])
+
+    def test_availability_before_and_after(self) -> None:
+        path = "/wayback/available?url=example.com&statuscodes=200&statuscodes=404"
+        for given, wanted in (
+            ("closest=before&timestamp=20160101", TIMES[1]), ("closest=after&timestamp=20160101", TIMES[3]),
+            ("closest=before&timestamp=20150101000000", TIMES[1]), ("closest=after&timestamp=20150101000000", TIMES[1]),
+            ("closest=either&timestamp=20160301", TIMES[3]), ("closest=before&timestamp=2013", None),
+            ("closest=after&timestamp=2018", None),
+        ):  # fmt: skip
+            found = json.loads(self.server.ask(f"{path}&{given}").body)["archived_snapshots"]
+            self.assertEqual(wanted, found.get("closest", {}).get("timestamp"), given)
 
     def test_availability_of_many(self) -> None:
         for count, wanted in ((50, 200), (51, 400)):

@@ -7,9 +7,10 @@ from unittest import mock
 
 from warcdx import FIELDS
 from warcdx_gateway import rows
-from warcdx_gateway.answers import arranged, or_nothing, sliced
+from warcdx_gateway.answers import arranged, or_nothing
 from warcdx_gateway.refusal import Refusal
 from warcdx_gateway.rows import DIGEST, KEY, STAMP, Collapse, Grouper, row_of_values
+from warcdx_gateway.selection import sliced
 
 
 def capture(key: str, number: int, digest: str) -> list[str]:
@@ -28,24 +29,25 @@ class Groups(unittest.TestCase):
             for _, group in itertools.groupby(found, lambda row: row[KEY]):
                 each = list(group)
                 digests = {row[DIGEST] for row in each}
-                wanted.append((each[0][STAMP], each[-1][STAMP], str(len(each)), str(len(digests))))
-            grouper, given, at = Grouper([Collapse("urlkey")]), [], 0
+                counts = (len(each), len(digests), len(each) - 1)
+                wanted.append((each[0][STAMP], each[-1][STAMP], *map(str, counts)))
+            grouper, given, at = Grouper([Collapse("urlkey")], [None]), [], 0
             while at < len(found):
                 size = rng.randrange(4)
                 given += grouper.select(found[at : at + size])
                 at += size
             given += grouper.rest()
-            columns = (STAMP, rows.END, rows.GROUP_COUNT, rows.DIGEST_COUNT)
+            columns = (STAMP, rows.END, rows.GROUP_COUNT, rows.DIGEST_COUNT, rows.SKIPPED)
             self.assertEqual(wanted, [tuple(row[place] for place in columns) for row in given])
 
     def test_a_group_goes_on_after_a_resume_key(self) -> None:
-        grouper = Grouper([Collapse("urlkey")], capture("a", 1, "X"))
+        grouper = Grouper([Collapse("urlkey")], ["a"])
         self.assertEqual([], grouper.select([capture("a", 2, "X"), capture("b", 3, "X")]))
         self.assertEqual(["b"], [row[KEY] for row in grouper.rest()])
 
     def test_the_digests_of_a_group_are_bounded(self) -> None:
         with mock.patch.object(rows, "MOST_DIGESTS", 2):
-            grouper = Grouper([Collapse("urlkey")])
+            grouper = Grouper([Collapse("urlkey")], [None])
             grouper.select([capture("a", number, str(number)) for number in range(2)])
             self.assertRaises(Refusal, grouper.select, [capture("a", 3, "3")])
 

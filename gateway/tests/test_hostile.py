@@ -137,7 +137,7 @@ class Isolated(Case):
         """Their work ends, and no line is written for them."""
         self.put(lines(150_000))
         server = self.start(head=USUAL, pattern=1000)
-        costly = f"{ALL}&showNumPages=true" + "".join(f"&filter=original:.*{n}?" for n in range(20))
+        costly = f"{ALL}&collapse=statuscode" + "".join(f"&filter=original:.*{n}?" for n in range(20))
         before = processor_time(server)
         self.assertEqual(200, server.ask(costly).status)
         whole = processor_time(server) - before
@@ -281,6 +281,24 @@ class Requests(Case):
         self.assertEqual(b"300\n", self.server.ask("/cdx?url=example.com/a&fl=length").body)
         self.assertEqual("", self.server.said.read_text())
 
+    def test_a_body_that_is_not_one_of_http_is_refused(self) -> None:
+        for field, body in (("Transfer-Encoding: chunked", b"xyz\r\n"), ("Transfer-Encoding: chunked", b"3\r\nabcdef\r\n0\r\n\r\n")):
+            with connected(self.server) as client:
+                head = f"POST /wayback/available HTTP/1.1\r\nHost: localhost\r\n{field}\r\n\r\n"
+                client.send(head.encode() + body)
+                found = client.response()
+            self.assertEqual((400, "refused BadBody: the body of the request can't be read\n"), (found.status, found.text))
+        self.assertEqual("", self.server.said.read_text())
+
+    def test_a_line_of_the_access_log_has_no_controls(self) -> None:
+        log = self.folder / "log"
+        server = self.start(head=f'access_log = "{log}"\nworkers = 2\n')
+        with connected(server) as client:
+            client.send(b"GET /cdx?url=a\x1b[31m\x9b HTTP/1.1\r\nHost: localhost\r\nReferer: \x1b]0;x\x07\r\n\r\n")
+            client.response()
+        self.wait_for(lambda: log.read_text().count("\n") == 1, "no line is written")
+        self.assertTrue(log.read_text().rstrip("\n").isprintable(), log.read_text())
+
     def test_of_two_parameters_at_fault_the_first_is_named(self) -> None:
         """As `warcdx query` names it."""
         for query, name in (
@@ -314,7 +332,8 @@ class Requests(Case):
     def test_a_host_of_another_name_is_refused(self) -> None:
         for host, status in (
             ("localhost", 200), ("localhost:80", 200), ("127.0.0.1", 200), ("[::1]:8080", 200), ("LOCALHOST.", 200),
-            ("evil.example", 421), ("localhost.evil.example", 421), ("127.0.0.1.evil.example", 421), ("[", 421),
+            ("evil.example", 421), ("evil.example\\@localhost", 421), ("localhost/x", 421), ("localhost#x", 421),
+            ("localhost?x", 421), ("x@localhost", 421), ("localhost:x", 421), ("localhost.evil.example", 421), ("127.0.0.1.evil.example", 421), ("[", 421),
         ):  # fmt: skip
             with connected(self.server) as client:
                 client.send(f"GET /cdx?url=a HTTP/1.1\r\nHost: {host}\r\n\r\n".encode())

@@ -1,10 +1,14 @@
 """HTTP: keep-alive, HEAD, OPTIONS, CORS, tags, compression, limits, health and metrics."""
 import os
+import pathlib
 import socket
 import subprocess
 import unittest
+from unittest import mock
 
 from .support import COMMAND, PROGRAM, ROOT, SAMPLE, WAIT, Case, Shared, connected, lines
+
+from warcdx_gateway.settings import CollectionSettings, Settings, checked
 
 
 class Http(Shared):
@@ -60,9 +64,9 @@ class Http(Shared):
         self.assertNotIn("access-control-allow-origin", found.fields)
 
     def test_other_methods_are_refused(self) -> None:
-        for method in ("POST", "PUT", "DELETE", "TRACE"):
+        for method in ("PUT", "DELETE", "TRACE"):
             found = self.server.ask("/cdx?url=example.com", method)
-            self.assertEqual((405, "GET, HEAD"), (found.status, found.fields["allow"]))
+            self.assertEqual((405, "GET, HEAD, POST"), (found.status, found.fields["allow"]))
 
     def test_an_answer_that_is_known_is_not_sent(self) -> None:
         target = "/cdx?url=example.com"
@@ -99,6 +103,12 @@ class Http(Shared):
         # A request for the counts is counted after its answer was made.
         self.assertEqual([20 + 1 + 2, 1], [new - old for new, old in zip(after, before)])
         self.assertGreater(self.server.metric("request_seconds_sum"), 0)
+
+    def test_metrics_are_for_this_machine(self) -> None:
+        """A server in front passes requests of others on, and says whose they are."""
+        for path in ("/metrics", "/metrics/"):
+            self.assertEqual(200, self.server.ask(path).status)
+            self.assertEqual(404, self.server.ask(path, X_Forwarded_For="192.0.2.1").status)
 
     def test_bad_requests_are_refused(self) -> None:
         for request, statuses in (
@@ -146,7 +156,7 @@ class Origins(Case):
         )
         self.assertEqual(204, found.status)
         self.assertEqual("https://example.net", found.fields["access-control-allow-origin"])
-        self.assertEqual("GET, HEAD, OPTIONS", found.fields["access-control-allow-methods"])
+        self.assertEqual("GET, HEAD, OPTIONS, POST", found.fields["access-control-allow-methods"])
         found = server.ask("/metrics", Origin="https://example.net")
         self.assertNotIn("access-control-allow-origin", found.fields)
 
@@ -157,10 +167,9 @@ class Limits(Case):
         server = self.start(usual=10, largest=50, held=20)
         self.assertEqual(10, len(server.ask("/cdx?url=example.com/*").text.splitlines()))
         self.assertEqual(50, len(server.ask("/cdx?url=example.com/*&limit=50").text.splitlines()))
-        self.assertIn(
-            "limit=51: this server gives at most 50",
-            server.ask("/cdx?url=example.com/*&limit=51").text,
-        )
+        self.assertEqual(50, len(server.ask("/cdx?url=example.com/*&limit=51").text.splitlines()))
+        found = server.ask("/cdx?url=example.com/*&limit=51&showResumeKey=true").text.splitlines()
+        self.assertEqual(("", 52), (found[50], len(found)))
         self.assertEqual(20, len(server.ask("/cdx?url=example.com/*&limit=-20").text.splitlines()))
         self.assertIn(
             "in this order it is at most 20", server.ask("/cdx?url=example.com/*&limit=-21").text
@@ -189,9 +198,7 @@ class Limits(Case):
                 server.ask(f"{target}&page={number}").body for number in (*range(count), count)
             ]
             self.assertEqual((whole, b""), (b"".join(pages), pages[-1]))
-            self.assertEqual(
-                [3000] * (count - 1), [len(page.splitlines()) for page in pages[: count - 1]]
-            )
+            self.assertEqual(-(-index.stat().st_size // 900_000), count)
             backwards = [
                 server.ask(f"{target}&page={number}&filter=length:.*").body
                 for number in reversed(range(count))
@@ -201,6 +208,17 @@ class Limits(Case):
             self.page("url=example.com/*&fl=offset", index),
             server.ask("/cdx?url=example.com/*&fl=offset").body,
         )
+
+
+class Defaults(unittest.TestCase):
+    def test_workers_have_room_in_the_memory(self) -> None:
+        """Of 4 GB, three quarters are theirs."""
+        sizes = {"SC_PHYS_PAGES": 1 << 20, "SC_PAGE_SIZE": 4096}
+        each = CollectionSettings("main", "Main", (pathlib.Path("index"),))
+        for processors, memory, wanted in ((2, 512 << 20, 4), (16, 512 << 20, 6), (16, 256 << 20, 12), (4, 3 << 30, 2)):
+            cores = set(range(processors))
+            with mock.patch("os.sysconf", sizes.__getitem__), mock.patch("os.sched_getaffinity", return_value=cores):
+                self.assertEqual(wanted, checked(Settings((each,), "main", memory=memory)).workers)
 
 
 class Starts(Case):
@@ -218,6 +236,17 @@ class Starts(Case):
 
     def settings(self, text: str) -> str:
         return str(self.put(text, "settings.toml"))
+
+    def test_a_file_of_byte_code_that_is_cut_ends_no_start(self) -> None:
+        """Python writes it so on a full disk, and then can't load it again."""
+        environment = {**os.environ, "PYTHONPYCACHEPREFIX": str(self.folder), "PYTHONDONTWRITEBYTECODE": ""}
+        names = ("warcdx_start", "python/warcdx/command", "gateway/warcdx_gateway/command")
+        for cut in (0, 10, 0):
+            done = subprocess.run((COMMAND, "--version"), env=environment, capture_output=True, timeout=WAIT)
+            self.assertEqual((0, b""), (done.returncode, done.stderr))
+            for code in [code for name in names for code in self.folder.rglob(f"{name}.*.pyc")]:
+                os.truncate(code, cut and code.stat().st_size - cut)
+        self.assertEqual(3, len([code for name in names for code in self.folder.rglob(f"{name}.*.pyc")]))
 
     def test_what_is_missing_is_named(self) -> None:
         index = str(self.put(SAMPLE))
@@ -244,12 +273,26 @@ class Starts(Case):
         os.mkfifo(pipe)
         for path, reason in (
             (str(self.folder / "nosuch"), "No such file or directory"),
-            (str(self.folder), "not a regular file"),
+            (str(self.folder), "CannotOpen (Is a directory)"),
             (str(pipe), "not a regular file"),
             ("/dev/zero", "not a regular file"),
         ):
             said = self.fails("--port", "0", "--program", PROGRAM, "--indexes", path)
             self.assertEqual(f"warcdx-gateway: {path}: {reason}\n", said)
+
+    def test_metrics_may_have_an_address(self) -> None:
+        with socket.socket() as free:
+            free.bind(("127.0.0.1", 0))
+            port = free.getsockname()[1]
+        self.put(SAMPLE)
+        server = self.start(head=f'metrics = "127.0.0.1:{port}"\n')
+        self.assertEqual(404, server.ask("/metrics").status)
+        main, server.address = server.address, ("127.0.0.1", port)
+        for path, status in (("/metrics", 200), ("/cdx?url=example.com", 404), ("/", 404), ("/health", 404)):
+            self.assertEqual(status, server.ask(path, Host="metrics.example").status, path)
+        self.assertGreater(server.metric("requests_total"), 0)
+        server.address = main
+        self.assertEqual(200, server.ask("/cdx?url=example.com").status)
 
     def test_too_few_files_are_named(self) -> None:
         index = str(self.put(SAMPLE))
@@ -258,7 +301,7 @@ class Starts(Case):
         run = subprocess.run(
             ("sh", "-c", command, "sh", *arguments), capture_output=True, text=True, timeout=60
         )
-        said = "a process may open 64 files, and 65 are needed: raise the limit, as by ulimit -n"
+        said = "a process may open 64 files, and 129 are needed: raise the limit, as by ulimit -n"
         self.assertEqual((1, "", f"warcdx-gateway: {said}\n"), (run.returncode, run.stdout, run.stderr))
 
     def test_a_used_port_is_named(self) -> None:

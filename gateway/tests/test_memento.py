@@ -1,8 +1,10 @@
 """Memento: the requests and answers of RFC 7089, over the captures of the RFC's examples."""
+import gzip
 import importlib.util
 import random
 import re
 import unittest
+from collections import Counter
 from typing import Optional
 from unittest import mock
 
@@ -17,6 +19,7 @@ from warcdx_gateway.browse.raw_captures import archived_fields
 from warcdx_gateway.history import History, nearest_of
 from warcdx_gateway.memento import timestamp_of
 
+WINDOW = "<link rel=preconnect href=//a.example><a href=/next>é</a>"
 HAS_BROTLI = importlib.util.find_spec("brotli") is not None
 ORIGINAL = "http://a.example.org/"
 ROOT = "http://localhost/web"
@@ -208,7 +211,7 @@ class Examples(support.Pages):
         self.assertEqual([f"{ROOT}/{timestamp}id_/{ORIGINAL}" for timestamp in times], seen)
 
     def test_a_raw_capture_is_near_or_exact(self) -> None:
-        for timestamp, wanted in (("2000", FIRST), ("20010911", NEXT), ("20200101000000", LAST)):
+        for timestamp, wanted in (("2000", CHOSEN), ("200006", SECOND), ("20010911", NEXT), ("20200101000000", LAST), ("2", LAST)):
             for front in ("web", "crawl"):
                 answer = self.asked(f"/{front}/{timestamp}id_/{ORIGINAL}")
                 self.assertEqual(302, answer.status_code)
@@ -293,6 +296,10 @@ class Raw(support.Pages):
             response("http://example.com/odd", DATE, b"odd", status="999 Odd"),
             response("http://example.com/empty", DATE, b"", status="304 Not Modified"),
             response("http://example.com/large", DATE, b"x" * 3_000_000, "text/plain"),
+            response("http://example.com/window", DATE, gzip.compress(WINDOW.encode("windows-1252")), "text/html",
+                     status="410 Gone", http=["Content-Encoding: gzip"]),
+            response("http://example.com/window.svg", DATE, b"<svg/>", "image/svg+xml"),
+            response("http://example.com/window.png", DATE, b"x", "image/png"),
             record("resource", "http://example.com/note", DATE, b"a note", "text/plain"),
             record("response", "http://example.com/old", DATE, b"<p>old", "application/http"),
             revisit("http://example.com/lost", DATE, b"lost"),
@@ -326,7 +333,6 @@ class Raw(support.Pages):
         for name, status, data in (
             ("gone", 410, b"gone"),
             ("odd", 200, b"odd"),
-            ("empty", 304, b""),
             ("note", 200, b"a note"),
             ("chunks", 200, b"<p>one."),
         ):
@@ -406,6 +412,30 @@ class Raw(support.Pages):
                 wanted = {"nothing": b"", "hostile": b"x"}.get(name, b"text")
                 self.assertEqual((200, wanted), (answer.status_code, answer.data), name)
 
+    def test_a_browser_is_shown_a_page_with_what_is_in_the_archive(self) -> None:
+        url, stamp = "http://example.com/window", "20160303093431"
+        for mark in ("", "id_"):
+            for dest in ("image", "empty"):
+                answer = self.client.get(f"/crawl/{stamp}{mark}/{url}", headers={"Sec-Fetch-Dest": dest})
+                self.assertEqual(410 if mark else 302, answer.status_code)
+            for dest in ("document", "iframe"):
+                answer = self.client.get(f"/crawl/{stamp}{mark}/{url}", headers={"Sec-Fetch-Dest": dest})
+                if mark:
+                    self.assertEqual(302, answer.status_code)
+                    self.assertEqual(f"http://localhost/crawl/{stamp}/{url}", answer.headers["Location"])
+                    continue
+                self.assertEqual((410, "text/html; charset=utf-8"), (answer.status_code, answer.content_type))
+                link = f'<a href="/crawl/{stamp}/http://example.com/next">'.replace('"/', '"http://localhost/')
+                self.assertEqual(f'{link}é</a>', answer.text)
+                self.assertTrue(answer.headers["Content-Security-Policy"].startswith("sandbox; default-src 'none'"))
+                self.assertEqual("off", answer.headers["X-DNS-Prefetch-Control"])
+                self.assertIn("Memento-Datetime", answer.headers)
+        answer = self.client.get(f"/crawl/2016/{url}", headers={"Sec-Fetch-Dest": "document"})
+        self.assertEqual(f"http://localhost/crawl/{stamp}/{url}", answer.headers["Location"])
+        for name, wanted in (("window.svg", "text/plain; charset=utf-8"), ("window.png", "image/png")):
+            answer = self.client.get(f"/crawl/{stamp}id_/http://example.com/{name}", headers={"Sec-Fetch-Dest": "document"})
+            self.assertEqual((200, wanted), (answer.status_code, answer.content_type))
+
     def test_archived_fields_are_bounded(self) -> None:
         answer = self.raw("http://example.com/many")
         self.assertLess(sum(len(name) + len(value) + 4 for name, value in answer.headers), 10_000)
@@ -427,6 +457,35 @@ class Raw(support.Pages):
         answer = self.client.head(f"/crawl/20160303093431id_/{PAGE}")
         self.assertEqual((200, b""), (answer.status_code, answer.data))
         self.assertEqual("Thu, 03 Mar 2016 09:34:31 GMT", answer.headers["Memento-Datetime"])
+
+
+class Seconds(support.Pages):
+    """Many captures of one second."""
+
+    def fill(self, archives: Archives) -> None:
+        lines = [
+            archives.line(
+                "http://example.com/", f"2016030309343{1 + (number > 20) + (number > 470)}", "a.warc", number
+            )
+            for number in range(500)
+        ]
+        archives.put("index", b"".join(lines))
+
+    def test_a_time_map_has_pages_within_a_second(self) -> None:
+        for most in (7, 100, 450):
+            path: Optional[str] = "/web/timemap/link/http://example.com/"
+            seen, pages = list[str](), 0
+            with mock.patch("warcdx_gateway.memento.MOST_MEMENTOS", most):
+                while path:
+                    text = self.client.get(path).text
+                    found = re.findall("/web/([0-9]{14})id_/", text)
+                    self.assertLessEqual(len(found), most)
+                    seen, pages = seen + found, pages + 1
+                    following = re.search('<http://localhost([^>]*)>; rel="timemap"', text)
+                    path = following[1] if following else None
+            self.assertEqual(500, len(seen))
+            self.assertEqual(sorted(seen), seen)
+            self.assertEqual({"20160303093431": 21, "20160303093432": 450, "20160303093433": 29}, Counter(seen))
 
 
 if __name__ == "__main__":

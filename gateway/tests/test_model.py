@@ -3,7 +3,6 @@
 The variable GATEWAY_REQUESTS says how many requests are sent, and GATEWAY_SEED how they begin.
 """
 import contextlib
-import json
 import os
 import random
 import signal
@@ -11,7 +10,7 @@ import threading
 import unittest
 from typing import Optional
 
-from .model import FIELDS, Capture, Request, answer
+from .model import FIELDS, Capture, Request, answer, line_of
 from .support import Case, Server, connected
 
 REQUESTS = int(os.environ.get("GATEWAY_REQUESTS", "400"))
@@ -62,11 +61,7 @@ def random_captures(chance: random.Random) -> list[Capture]:
 
 
 def index_of(captures: list[Capture]) -> str:
-    lines = []
-    for each in captures:
-        members = dict(zip(("url", "mime", "status", "digest", "length", "offset", "filename"), list(each.values())[2:]))
-        lines.append(f"{each['urlkey']} {each['timestamp']} {json.dumps(members)}\n")
-    return "".join(lines)
+    return "".join(map(line_of, captures))
 
 
 def random_request(chance: random.Random, captures: list[Capture]) -> Request:

@@ -85,7 +85,10 @@ class Programs(Case):
         self.assertEqual((200, b""), server.ask("/cdx?key=d")[::2])
 
     def test_lines_out_of_order_are_found_where_query_finds_them(self) -> None:
-        """An answer isn't searched for piece by piece, as a search may end behind the lines."""
+        """An answer isn't searched for piece by piece, as a search may end behind the lines.
+
+        The search for the last captures finds others of these lines.
+        """
         text = lines(500).splitlines(keepends=True)
         moved = text[124:245]
         del text[124:245]
@@ -96,11 +99,15 @@ class Programs(Case):
         name, offset = done.stderr.splitlines()[0].split()[-2:]
         self.assertEqual("OutOfOrder", name)
         server = self.start(program=self.program(ALL_IN_ORDER))
-        for rest in ("", "&filter=statuscode:2..", "&limit=-3", "&sort=reverse", "&collapse=digest"):
+        for rest in ("", "&filter=statuscode:2..", "&collapse=digest"):
             found = server.ask(ALL + rest)
             self.assertEqual(
                 (500, f"fault OutOfOrder 0 {offset}\n"), (found.status, found.text), rest
             )
+        for rest in ("&limit=-3", "&sort=reverse", "&page=0", "&showNumPages=true"):
+            found = server.ask(ALL + rest)
+            self.assertEqual(500, found.status, rest)
+            self.assertTrue(found.text.startswith("fault OutOfOrder 0 "), found.text)
 
     def test_a_fault_in_a_long_answer_breaks_it_off(self) -> None:
         """The client sees that the answer isn't whole, and a line says so."""
@@ -130,6 +137,18 @@ class Programs(Case):
         found = server.ask("/cdx?url=example.com")
         self.assertEqual((503, "1"), (found.status, found.fields["retry-after"]))
         self.assertIn("refused TooSlow", found.text)
+
+    def test_a_client_that_leaves_is_noticed_while_the_program_is_silent(self) -> None:
+        self.put(SAMPLE)
+        rule = '[ "$1" != serve ] || { while read -r line; do exec sleep 600; done; exit; }'
+        server = self.start(program=self.program(rule))
+        with connected(server) as client:
+            client.send(b"GET /cdx?url=example.com HTTP/1.1\r\nHost: localhost\r\n\r\n")
+            time.sleep(1.5)
+            self.assertTrue(server.programs())
+        start = time.monotonic()
+        self.wait_for(lambda: not server.programs(), "the program goes on")
+        self.assertLess(time.monotonic() - start, 5)  # where limits.query is 30
 
 
 class Indexes(Case):

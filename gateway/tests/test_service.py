@@ -198,7 +198,8 @@ class Nginx(Case):
         preflight = ("--request", "OPTIONS", "--header", "Origin: https://example.net")
         self.assertEqual(204, self.curl("/cdx", *preflight)[0])
         self.assertEqual(204, self.curl("/main/index?url=a", *preflight)[0])
-        self.assertEqual(200, self.curl("/metrics")[0])  # from this machine
+        for path in ("/metrics", "/metrics/", "//metrics", "/metrics%2f", "/x/../metrics"):
+            self.assertEqual(404, self.curl(path, "--path-as-is", *reader)[0], path)
         self.assertEqual(400, self.curl("/cdx?url=a&x=1", *reader)[0])
         self.assertEqual(200, self.curl("/cdx?url=" + "a" * 60_000, *reader)[0])
 

@@ -7,6 +7,8 @@ import socket
 import time
 import unittest
 
+from warcdx_gateway.waiting import QUEUES
+
 from .support import LINE, WAIT, Case, connected, lines
 
 EXACT = "/cdx?url=example.com/0000007&fl=length"
@@ -17,7 +19,7 @@ class Workers(Case):
     def test_a_worker_that_is_stuck_is_replaced(self) -> None:
         """A client takes nothing of a long answer."""
         self.put(lines(200_000, size=100))
-        server = self.start(head="workers = 2\ntimeout = 8\n", query=7)
+        server = self.start(head="workers = 2\ntimeout = 8\n", query=7, wait=1)
         with connected(server) as client:
             client.begin(ALL)
             workers = server.workers()
@@ -58,11 +60,11 @@ class Workers(Case):
         self.wait_for(lambda: len(server.workers()) == 3, "the workers aren't back")
         self.assertGreater(server.metric("ended_workers_total"), 5)
         files = list(pathlib.Path(f"/proc/{server.process.pid}/fd").iterdir())
-        self.assertLess(len(files), 60)
+        self.assertLess(len(files), 60 + 2 * QUEUES)
 
     def test_a_slot_of_a_killed_worker_is_free(self) -> None:
         self.put(lines(200_000, size=100))
-        server = self.start(head="workers = 3\nwide = 1\n")
+        server = self.start(head="workers = 3\nwide = 1\n", wait=1)
         with connected(server) as client:
             client.begin(ALL)
             found = server.ask(ALL)
@@ -107,6 +109,20 @@ class Ends(Case):
             self.assertTrue(client.response().body == wanted)
         self.assertEqual(0, server.process.wait(WAIT))
         self.assertEqual("", server.said.read_text())
+
+    def test_sigterm_answers_those_that_wait_for_a_slot(self) -> None:
+        self.put(lines(60_000, size=100))
+        server = self.start(head="workers = 2\nwide = 1\n", wait=60)
+        wanted = self.page("url=example.com/*")
+        with connected(server) as first, connected(server) as second:
+            first.begin(ALL)
+            second.send(f"GET {ALL}&collapse=digest HTTP/1.1\r\nHost: localhost\r\n\r\n".encode())
+            time.sleep(1)
+            server.process.send_signal(signal.SIGTERM)
+            found = second.response()
+            self.assertEqual((503, "1"), (found.status, found.fields["retry-after"]))
+            self.assertTrue(first.response().body == wanted)
+        self.assertEqual(0, server.process.wait(WAIT))
 
     def test_sigterm_does_not_wait_for_silent_clients(self) -> None:
         """They have sent nothing, or a part of a request."""

@@ -4,6 +4,7 @@ import errno
 import functools
 import importlib
 import json
+import re
 import socket
 import struct
 import time
@@ -13,11 +14,12 @@ from typing import Any, Optional
 from urllib.parse import urlsplit
 from wsgiref.types import StartResponse, WSGIApplication, WSGIEnvironment
 
+from gunicorn.http.errors import ChunkMissingTerminator, InvalidChunkSize, NoMoreData
 from werkzeug.exceptions import HTTPException, NotFound
 from werkzeug.routing import Map, Rule
 from werkzeug.wrappers import Request, Response
 
-from warcdx import FIELDS, Capture, Error, Fault, Refused, ReplyTooLate, ReplyTooLong
+from warcdx import Capture, Error, Fault, Refused, ReplyTooLate, ReplyTooLong
 
 from .answers import Answers, or_nothing
 from .collection import Collection, Source
@@ -25,10 +27,17 @@ from .parameters import Form, translated
 from .plan import Plan, plan_of
 from .refusal import TEXT, Refusal, http_response, program_refusal, say, text_of
 from .rows import Output
+from .rules import Action, rules_of
 from .settings import Settings, is_loopback
-from .shared import Board, Metrics, Shares
+from .shared import Board, Metrics
+from .waiting import address_of
+from .work import MOST_FREE, Work
 
 METHODS = ("GET", "HEAD")
+BAD_BODIES = (ChunkMissingTerminator, InvalidChunkSize, NoMoreData)
+# What links begin with, as browsers read it: no other character may stand in it.
+HOST = re.compile(r"([A-Za-z0-9._-]+|\[[0-9A-Fa-f:.]+\])(:[0-9]{1,5})?")
+FORM = "application/x-www-form-urlencoded"
 KINDS = {
     Output.TEXT: TEXT,
     Output.JSON: "application/json",
@@ -41,6 +50,7 @@ WAYBACK_PATHS = (
     "/cdx/search",
     "/cdx/search/cdx",
     "/cdx/search/xd",
+    "/web/timemap",
     "/web/timemap/cdx",
     "/web/timemap/json",
 )
@@ -51,8 +61,6 @@ HEALTH_SECONDS = 5
 LOOKS = 0.25  # seconds between two looks at the words of the master
 TRIES = 4  # to have the files of the master, in a look
 AGAIN = 0.05  # seconds after which they are tried again
-PATIENCE = 1.0  # seconds until a client that has closed its side has left
-MOST_WHOLE = 1 << 16  # bytes of an answer that is made before it is sent
 
 Handler = Callable[..., WSGIApplication]  # of the gateway, a request and the values of its path
 Headers = list[tuple[str, str]]
@@ -63,8 +71,14 @@ class GatewayRequest(Request):
 
     @property
     def query_text(self) -> str:
-        """The query as it was sent, with its escapes. Raises Refusal if it isn't UTF-8."""
+        """The query as it was sent, with its escapes, also as the body of a form.
+
+        Raises Refusal if it isn't UTF-8.
+        """
         try:
+            if self.method == "POST" and self.mimetype == FORM:
+                parts = self.query_string, self.get_data(cache=True)
+                return "&".join(part.decode() for part in parts if part)
             return self.query_string.decode()
         except UnicodeDecodeError:
             raise Refusal("NotText", "", "a query is in UTF-8") from None
@@ -77,21 +91,26 @@ class Gateway:
         self,
         settings: Settings,
         collections: Mapping[str, Collection],
-        shares: Shares,
         metrics: Metrics,
         board: Board,
+        rules: Board,
     ) -> None:
         self.settings = settings
         self.collections = collections
         self.main = collections[settings.main]
-        self.slot = shares.slot
+        self.listed = [each for each in collections.values() if each.settings.listed]
+        self.main.is_alone = self.listed == [self.main]
         self.metrics = metrics
         self._board = board
         self._followed = b""
+        self._rules_board = rules
+        self._rules = b""
         self._looked = 0.0
         self._answers = Answers(settings.limits)
-        self.beat: Callable[[], None] = lambda: None  # shows the master that an answer goes on
-        found = [rule("/health", health), rule("/metrics", show_metrics)]
+        self.work = Work(settings.limits.wide)
+        for each in collections.values():
+            each.work = self.work
+        found = [rule("/health", health), rule("/metrics", own_metrics)]
         for name in MODULES:  # which stand on this one
             found += importlib.import_module(f"{__package__}.{name}").rules()
         self._paths = Map(found, strict_slashes=False, merge_slashes=False).bind("")
@@ -112,6 +131,10 @@ class Gateway:
         if now - self._looked < LOOKS:
             return
         self._looked = now
+        if (text := self._rules_board.read()) != self._rules:
+            self._rules = text
+            for name, each in self.collections.items():
+                each.rules = rules_of(text, name)
         for _ in range(TRIES):  # while the master goes on to other files
             if self._has_followed():
                 break
@@ -128,31 +151,41 @@ class Gateway:
             self._followed = text if all(followed) else b""
         return bool(self._followed) or not text
 
-    def source(self, collection: Collection, client: Optional[socket.socket] = None) -> Source:
-        """Returns what asks the indexes for an answer that may be wide or costly.
-
-        It raises ConnectionResetError if the client has closed the connection. One that has closed
-        its own side looks the same, and waits for its answer. So a short one isn't broken off.
-        """
-        patience = time.monotonic() + PATIENCE
-
-        def beat() -> None:
-            self.beat()
-            if client is not None and time.monotonic() > patience:
-                with contextlib.suppress(BlockingIOError):
-                    if not client.recv(1, socket.MSG_PEEK | socket.MSG_DONTWAIT):
-                        raise ConnectionResetError(errno.ECONNRESET, "the client has left")
-
-        limits = self.settings.limits
-        return Source(collection, limits.wide, limits.query, beat)
+    def source(self, collection: Collection) -> Source:
+        """Returns what asks the indexes of a collection for an answer."""
+        return Source(collection, self.settings.limits.query)
 
     def captures(self, collection: Collection, query: str, limit: int) -> list[Capture]:
         """Returns the first captures that a query of the program selects, at most `limit`.
 
         Raises the errors of the package, or Refusal if it takes too long.
         """
-        groups = self.source(collection).values(f"{query}&limit={limit}", FIELDS)
+        groups = self.source(collection).values(query, limit=limit)
         return [Capture.of(values) for group in groups for values in group]
+
+    def readable(self, collection: Collection, query: str, limit: int) -> list[Capture]:
+        """Returns the first captures whose records may be shown."""
+        groups = self.source(collection).values(query, limit=limit, most=Action.SHOW)
+        return [Capture.of(values) for group in groups for values in group]
+
+    def first_of_keys(
+        self, collection: Collection, after: str, query: str, limit: int
+    ) -> list[Capture]:
+        """Returns the first capture of each key that a query selects, of the first `limit` keys.
+
+        `after` is the place that the query has as its resume key: its key was given before.
+        """
+        if not collection.rules:
+            return self.captures(collection, f"{query}&collapse=urlkey", limit)
+        found, last = list[Capture](), after.partition(" ")[0]
+        for group in self.source(collection).values(query):
+            for values in group:
+                if values[0] != last:
+                    last = values[0]
+                    found.append(Capture.of(values))
+                if len(found) == limit:
+                    return found
+        return found
 
     def answer(
         self,
@@ -163,13 +196,8 @@ class Gateway:
     ) -> WSGIApplication:
         """Answers a query, by default that of the request, in a form of its parameters."""
         text = translated(request.query_text if query is None else query)
-        limits = self.settings.limits
-        plan = plan_of(text, form, limits)
-        if plan.is_exact:
-            source = Source(collection, limits.exact, limits.query, self.beat)
-        else:
-            source = self.source(collection, request.environ.get("gunicorn.socket"))
-        headers = collection.validators()
+        plan = plan_of(text, form, self.settings.limits, not collection.rules)
+        source, headers = self.source(collection), collection.validators()
         if is_unchanged(request, headers):
             source.check()  # a query that is refused has no 304
             collection.index.text(plan.plain_query(plan.resume_key, 1))
@@ -177,22 +205,28 @@ class Gateway:
             return Response(status=304, headers=headers)
 
         def pieces() -> Generator[bytes, None, None]:
-            with contextlib.nullcontext() if plan.is_exact else self.slot():
-                made = self._answers.pieces(plan, source, collection.tag)
-                yield from or_nothing(made) if plan.is_array else made
+            made = self._answers.pieces(plan, source, collection.tag)
+            yield from or_nothing(made) if plan.is_array else made
 
-        return streamed(pieces(), [*headers.items(), ("Content-Type", kind_of(plan))])
+        kind = ("Content-Type", kind_of(plan))
+        return streamed(pieces(), [*headers.items(), kind], self.work)
 
     def rows(self, collection: Collection, query: str) -> list[list[str]]:
         """Returns the rows of a query in the form of the Internet Archive, which names `fl`."""
-        plan = plan_of(f"{query}&output=json", Form.WAYBACK, self.settings.limits)
-        with self.slot():
-            made = self._answers.pieces(plan, self.source(collection), collection.tag)
-            return list(json.loads(b"".join(made)))[1:]
+        limits, is_open = self.settings.limits, not collection.rules
+        plan = plan_of(f"{query}&output=json", Form.WAYBACK, limits, is_open)
+        made = self._answers.pieces(plan, self.source(collection), collection.tag)
+        return list(json.loads(b"".join(made)))[1:]
 
     def __call__(self, environ: WSGIEnvironment, start_response: StartResponse) -> Iterable[bytes]:
-        start, request = time.monotonic(), GatewayRequest(environ, populate_request=False)
-        name, answer = self._answer(request)
+        client = environ.get("gunicorn.socket")
+        start = time.monotonic() if client is None else client.arrived
+        self.work.begin(client)
+        name, answer = self._answer(GatewayRequest(environ, populate_request=False))
+        if isinstance(answer, Response):
+            body = answer.response if answer.is_sequence else ()
+            self.work.expect_slot(sum(map(len, body)) if answer.is_sequence else MOST_FREE + 1)
+        self.work.settle()
 
         def begin(status: str, headers: Headers, *rest: Any) -> Any:
             """Begins an answer with what each one has."""
@@ -208,15 +242,23 @@ class Gateway:
         """Returns the name of the collection, if there is one, and what answers."""
         name = ""
         try:
+            path, method = request.path, request.method
+            client = request.environ.get("gunicorn.socket")
+            if client is not None and client.is_for_metrics:
+                return "", show_metrics(self) if path == "/metrics" else http_response(NotFound())
             self._check_host(request)
             self.look()
-            path, method = request.path, request.method
             if method == "OPTIONS" and self.settings.origins:
                 return self.settings.main, preflight(self._paths.allowed_methods(path))
             found, values = self._rule_of(path, method)
             is_main = found.rule in WAYBACK_PATHS or found.rule.startswith("/web/")
             name = values.get("collection", self.settings.main if is_main else "")
             name = name if name in self.collections else ""
+            is_listed = not name or self.collections[name].settings.listed
+            if not is_listed and not path.startswith(f"/{name}/"):
+                # So a server in front can close it by the front of its paths.
+                name = ""
+                raise NotFound("there is no such collection")
             handler: Any = found.endpoint
             return name, handler(self, request, **values)
         except ConnectionError:
@@ -232,6 +274,8 @@ class Gateway:
             error = program_refusal(error.name, request.args)
         elif isinstance(error, ReplyTooLate):
             error = Refusal("TooSlow", "", "it takes too long; restrict the query", status=503)
+        elif isinstance(error, BAD_BODIES):
+            error = Refusal("BadBody", "", "the body of the request can't be read")
         elif isinstance(error, (ReplyTooLong, MemoryError)):
             error = Refusal("TooLarge", "", "it takes too much memory; restrict the query")
         if isinstance(error, Refusal):
@@ -281,7 +325,7 @@ class Sent:
     def __iter__(self) -> Iterator[bytes]:
         try:
             for piece in self.pieces:
-                self.gateway.beat()
+                self.gateway.work.beat()
                 self.gateway.metrics.bytes.inc(len(piece))
                 yield piece
             self.is_whole = True
@@ -334,12 +378,23 @@ def health(gateway: Gateway, request: GatewayRequest) -> Response:
     return Response("".join(said), content_type=TEXT)
 
 
-def show_metrics(gateway: Gateway, request: GatewayRequest) -> Response:
+def own_metrics(gateway: Gateway, request: GatewayRequest) -> Response:
+    """Shows the metrics to this machine, and to no one whose request a server passes on."""
+    environ = request.environ
+    peer, forwarded = environ.get("REMOTE_ADDR") or "", environ.get("HTTP_X_FORWARDED_FOR", "")
+    if gateway.settings.metrics or forwarded or address_of(peer, "") is not None:
+        raise NotFound()
+    return show_metrics(gateway)
+
+
+def show_metrics(gateway: Gateway) -> Response:
     kind = "text/plain; version=0.0.4; charset=utf-8"
     return Response(gateway.metrics.text(), content_type=kind)
 
 
-def streamed(pieces: Generator[bytes, None, None], headers: Headers) -> WSGIApplication:
+def streamed(
+    pieces: Generator[bytes, None, None], headers: Headers, work: Work
+) -> WSGIApplication:
     """Returns an answer whose pieces are made when they are sent.
 
     The first ones are made at once. So what fails until then has a status, and a short answer has
@@ -349,7 +404,8 @@ def streamed(pieces: Generator[bytes, None, None], headers: Headers) -> WSGIAppl
     for piece in pieces:
         begun.append(piece)
         size += len(piece)
-        if size > MOST_WHOLE:
+        if size > MOST_FREE:
+            work.expect_slot()
             return answer_of(headers, joined(begun, pieces))
     return answer_of([*headers, ("Content-Length", str(size))], [b"".join(begun)])
 
@@ -404,6 +460,6 @@ def kind_of(plan: Plan) -> str:
 def host_of(field: str) -> str:
     """Returns the host of a field `Host` without its port, nothing if it can't be read."""
     try:
-        return urlsplit(f"//{field}").hostname or ""
+        return urlsplit(f"//{field}").hostname or "" if HOST.fullmatch(field) else ""
     except ValueError:
         return ""

@@ -1,6 +1,7 @@
 """The paths and words of other servers' clients. gateway/README.md has the table of them."""
 import contextlib
 import functools
+import itertools
 import json
 import re
 from collections.abc import Mapping
@@ -18,7 +19,7 @@ from werkzeug.wrappers import Request, Response
 from . import memento
 from .application import METHODS, WAYBACK_PATHS, Gateway, GatewayRequest, rule
 from .collection import Collection
-from .history import first_moment, nearest_of, quoted
+from .history import History, first_moment, nearest_of, quoted
 from .parameters import Form, is_number
 from .refusal import Refusal
 
@@ -48,23 +49,28 @@ URL_MEMBERS = {
     "firstcapturets": "timestamp",
     "lastcapturets": "endtimestamp",
 }
+ANSWERED = (*METHODS, "POST")  # of queries: a long one may be a body
+TIME_MAPS = {"json": "json", "cdx": "text", "cdxj": "cdxj"}  # their outputs
 MOST_ASKED = 50  # URLs of one request of the availability API
 MOST_RESULTS = 10_000  # of an XML query
+# Which capture `closest` of the availability API wants.
+CHOICES = {"before": History.up_to, "after": History.since}
 _NOT_XML = re.compile("[^\t\n\r -\ud7ff\ue000-\ufffd\U00010000-\U0010ffff]")
 
 
 def rules() -> list[Rule]:
     """Returns the rules of these paths."""
-    found = [rule(path, _wayback) for path in WAYBACK_PATHS]
-    for front in ("web", "<collection>"):
-        found.append(rule(f"/{front}/timemap/json/<path:url>", _time_map_in_json))
+    found = [rule(path, _wayback, ANSWERED) for path in WAYBACK_PATHS]
+    for front, (name, output) in itertools.product(("web", "<collection>"), TIME_MAPS.items()):
+        listed = functools.partial(_time_map_in, output)
+        found.append(rule(f"/{front}/timemap/{name}/<path:url>", listed))
     for path in ("/<collection>/index", "/<collection>-index", "/<collection>-cdx"):
-        found.append(rule(path, functools.partial(_answer, Form.PYWB)))
+        found.append(rule(path, functools.partial(_answer, Form.PYWB), ANSWERED))
     return found + [
-        rule("/<collection>/cdx", functools.partial(_answer, None)),
+        rule("/<collection>/cdx", functools.partial(_answer, None), ANSWERED),
         rule("/<collection>", outback),
         rule("/collinfo.json", collinfo),
-        rule("/wayback/available", available, (*METHODS, "POST")),
+        rule("/wayback/available", available, ANSWERED),
         rule("/__wb/sparkline", sparkline),
     ]
 
@@ -88,14 +94,14 @@ def _answer(
     return gateway.answer(request, found, form)
 
 
-def _time_map_in_json(
-    gateway: Gateway, request: GatewayRequest, url: str, collection: str = ""
+def _time_map_in(
+    output: str, gateway: Gateway, request: GatewayRequest, url: str, collection: str = ""
 ) -> WSGIApplication:
     """Lists the captures of a URL, in the form of the collection."""
     found = gateway.collection(collection)
     resource = memento.Resource(gateway, request, collection, memento.url_of(request, 3))
     form = Form(found.settings.form) if collection else Form.WAYBACK
-    return gateway.answer(request, found, form, f"url={quoted(resource.original)}&output=json")
+    return gateway.answer(request, found, form, f"url={quoted(resource.original)}&output={output}")
 
 
 def _with(query: str, name: str, value: str) -> str:
@@ -113,7 +119,7 @@ def collinfo(gateway: Gateway, request: Request) -> Response:
             "timegate": f"{root}/{each.name}/",
             "cdx-api": f"{root}/{each.name}-index",
         }
-        for each in gateway.collections.values()
+        for each in gateway.listed
     ]
     return Response(json.dumps(found, ensure_ascii=False, indent=1) + "\n", content_type=JSON)
 
@@ -182,11 +188,6 @@ def available(gateway: Gateway, request: GatewayRequest) -> Response:
 
     A POST has a query on each line, and `results` in the order of the lines.
     """
-    with gateway.slot():
-        return _availability(gateway, request)
-
-
-def _availability(gateway: Gateway, request: GatewayRequest) -> Response:
     if request.method == "POST":
         lines = [line for line in request.get_data(as_text=True).split("\n") if line.strip()]
         if len(lines) > MOST_ASKED:
@@ -216,7 +217,9 @@ def _available(
     with contextlib.suppress(NotFound):
         resource = memento.Resource(gateway, request, "", url)
         codes = given.getlist("statuscodes")[:10] or ["200"]
-        found = (resource.history.where("statuscode", code).nearest(wanted) for code in codes)
+        histories = (resource.history.where("statuscode", code) for code in codes)
+        choose = CHOICES.get(given.get("closest", ""), History.nearest)
+        found = (choose(each, wanted) for each in histories)
         nearest = nearest_of(found, wanted)
         if nearest is not None:
             closest = {
@@ -233,14 +236,17 @@ def sparkline(gateway: Gateway, request: GatewayRequest) -> Response:
     """Counts the captures of a URL by months, as the Internet Archive's pages and extension ask."""
     source = gateway.source(gateway.main)
     years: dict[str, list[int]] = {}
+    statuses: dict[str, list[str]] = {}
     first = last = None
-    query = f"url={quoted(request.args.get('url', ''))}&matchType=exact&fl=timestamp"
-    with gateway.slot():
-        for lines in source.lines(query):
-            for timestamp in map(bytes.decode, lines):
-                first, last = first or timestamp, timestamp
-                month = int(timestamp[4:6])
-                if 1 <= month <= 12:
-                    years.setdefault(timestamp[:4], [0] * 12)[month - 1] += 1
-    found = {"years": years, "first_ts": first, "last_ts": last}
+    query = f"url={quoted(request.args.get('url', ''))}&matchType=exact"
+    for rows in source.values(query, ("timestamp", "statuscode")):
+        for timestamp, status in rows:
+            first, last = first or timestamp, timestamp
+            month = int(timestamp[4:6])
+            if 1 <= month <= 12:
+                years.setdefault(timestamp[:4], [0] * 12)[month - 1] += 1
+                digits = statuses.setdefault(timestamp[:4], ["0"] * 12)
+                digits[month - 1] = status[:1] if status[:1] in "12345" else digits[month - 1]
+    shown = {year: "".join(digits) for year, digits in statuses.items()}
+    found = {"years": years, "first_ts": first, "last_ts": last, "status": shown}
     return Response(json.dumps(found) + "\n", content_type=JSON)

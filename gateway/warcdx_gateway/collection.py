@@ -1,18 +1,27 @@
 """A collection: indexes that are queried as one, while their files are replaced."""
+import contextlib
+import copy
 import hashlib
+import itertools
 import json
 import os
+import sys
 import time
-from collections.abc import Callable, Generator, Iterator, Sequence
+from collections.abc import Generator, Iterator, Sequence
 from email.utils import formatdate
 from typing import Any, Optional
 
-from warcdx import Fault, Index
+from warcdx import FIELDS, Fault, Index, ReplyTooLate
+from warcdx.program import memory_file
 
 from .generation import Generation, Identity, names_of
+from .ranges import Lines, Range
 from .refusal import Refusal
+from .rules import ALL_SHOWN, Action, Rules
 from .settings import CollectionSettings, Settings
+from .work import UNBOUNDED, Work
 
+MOST_COPIED = 64 << 20  # bytes of lines in memory, usually a tenth of it
 SETTLED = 2  # seconds after which no other files get the same time
 
 
@@ -24,8 +33,10 @@ class Collection:
     seconds since 1970. The master opens the indexes and has them checked, and each worker opens
     those files itself.
 
-    `generation` is the files that are in use. `is_old` says that other files have got the names
-    and aren't in use, and `is_usable` is False if the files in use are known not to be in order.
+    `rules` say what of it may be shown, and `is_alone` that it is the only one that is listed.
+
+    `work` bounds what is read for the present request. `generation` is the files that are in use.
+    `is_old` says that other files have got the names and aren't in use, and `is_usable` is False if the files in use are known not to be in order.
     """
 
     def __init__(
@@ -35,12 +46,19 @@ class Collection:
         self.title = each.title
         self.settings = each
         self.program = settings.program
+        self.work: Work = UNBOUNDED
+        self.rules: Rules = ALL_SHOWN
+        self.is_alone = False
         self.is_old = False
         self.is_usable = True
         self._limits = settings.limits
         self._index: Optional[Index] = None
         self._owner = 0
         self._use(generation)
+
+    @property
+    def tag(self) -> str:
+        return self._tag + self.rules.tag
 
     @property
     def index(self) -> Index:
@@ -89,7 +107,7 @@ class Collection:
     def validators(self) -> dict[str, str]:
         """Returns the headers by which a client asks whether it has an answer already."""
         headers = {"Cache-Control": "no-cache", "ETag": f'"{self.tag}"'}
-        if time.time() - self.modified > SETTLED:  # else other files may have the same second
+        if not self.rules and time.time() - self.modified > SETTLED:  # else other files may have the same second
             headers["Last-Modified"] = self._date
         return headers
 
@@ -103,7 +121,7 @@ class Collection:
     def _use(self, generation: Generation) -> None:
         self.generation = generation
         key = (self.settings, generation.stamp, self._limits)
-        self.tag = hashlib.sha256(repr(key).encode()).hexdigest()[:20]
+        self._tag = hashlib.sha256(repr(key).encode()).hexdigest()[:20]
         self.modified = max(max(times[-2:]) for times in generation.stamp) // 10**9
         self._date = formatdate(self.modified, usegmt=True)
 
@@ -111,27 +129,55 @@ class Collection:
 class Source:
     """Asks an index for the captures of an answer, each time by one query of the program.
 
-    The answer may take `seconds`, and each piece of a reply `piece` seconds. The master learns by
-    `beat` that it goes on. A piece is yielded only if the files are those that were checked.
+    Each piece of a reply may take `piece` seconds. It is yielded only if the files are those that
+    were checked.
     """
 
-    def __init__(
-        self, collection: Collection, seconds: float, piece: float, beat: Callable[[], None]
-    ) -> None:
+    def __init__(self, collection: Collection, piece: float) -> None:
+        self.rules = collection.rules
         self._index = collection.index
         self._expect_unchanged = collection.expect_unchanged
-        self._end = time.monotonic() + seconds
         self._piece = piece
-        self._beat = beat
+        self.program = collection.program
+        self._generation = collection.generation
+        self._origins: list[tuple[int, int]] = []  # of a part: a file of the index, and its offset there
+        self.work = collection.work
+
+    @property
+    def files(self) -> list[Lines]:
+        """The files of the index, which are those that were checked."""
+        sizes = (each.size for each in self._generation.stamp)
+        return [Lines(*each) for each in zip(itertools.count(), self._generation.files, sizes)]
+
+    @contextlib.contextmanager
+    def part(self, lines: Range) -> Iterator["Source"]:
+        """Gives what asks a program for the captures of a range alone. Its lines are copied into memory.
+
+        Raises Refusal if that would be too many bytes.
+        """
+        if lines.size > MOST_COPIED:
+            cause = "the lines with one key and timestamp have too many bytes; restrict the query"
+            raise Refusal("TooLarge", "", cause)
+        with contextlib.ExitStack() as stack:
+            names, origins = list[str](), list[tuple[int, int]]()
+            for number, each in enumerate(lines.files):
+                start, end = lines.starts[number], lines.ends[number]
+                if start < end:
+                    copied = stack.enter_context(memory_file()).fileno()
+                    each.copy(copied, start, end)
+                    names += names_of(os.getpid(), [copied])
+                    origins.append((number, start))
+                    self.work.go_on()
+            self._expect_unchanged()
+            found = copy.copy(self)
+            found._index = stack.enter_context(Index(names, program=self.program))
+            found._origins = origins
+            yield found
 
     def check(self) -> None:
-        """Bounds the next piece of a reply. Raises Refusal if the time is over."""
-        left = self._end - time.monotonic()
-        if left <= 0:
-            cause = "the answer takes too long; restrict the query"
-            raise Refusal("TooSlow", "", cause, status=503)
-        self._index.seconds = min(self._piece, left)
-        self._beat()
+        """Bounds the next piece of a reply. Raises what ends the work."""
+        self._index.seconds = self.work.seconds(self._piece)
+        self._index.waits = self.work.go_on  # so that a client that leaves is noticed
 
     def pieces(self, query: str) -> Iterator[bytes]:
         """Yields the page of a query as the program writes it."""
@@ -141,8 +187,14 @@ class Source:
                 self._expect_unchanged()
                 yield piece
                 self.check()
-        except Fault:
+        except Fault as fault:
             self._expect_unchanged()
+            if self._origins and fault.number is not None and fault.offset is not None:
+                fault.number, start = self._origins[fault.number]
+                fault.offset += start
+            raise
+        except ReplyTooLate:
+            self.work.go_on()
             raise
         self._expect_unchanged()
 
@@ -157,10 +209,40 @@ class Source:
                 begun = others[-1:]
         # A page ends with a line feed.
 
-    def values(self, query: str, fields: Sequence[str]) -> Generator[list[list[str]], None, None]:
-        """Yields the values of these fields of each capture."""
-        for lines in self.row_lines(f"{query}&fl={','.join(fields)}"):
-            yield values_of(lines)
+    def values(
+        self,
+        query: str,
+        fields: Sequence[str] = FIELDS,
+        limit: Optional[int] = None,
+        most: Action = Action.METADATA,
+    ) -> Generator[list[list[str]], None, None]:
+        """Yields the values of these fields of each capture that may be shown, of the first `limit`.
+
+        The query has neither `limit` nor `collapse`, as captures that aren't shown would count.
+        """
+        if not self.rules:
+            bound = "" if limit is None else f"&limit={limit}"
+            for lines in self.row_lines(f"{query}&fl={','.join(fields)}{bound}"):
+                yield values_of(lines)
+            return
+        places = [FIELDS.index(field) for field in fields]
+        left = sys.maxsize if limit is None else limit
+        for lines in self.row_lines(f"{query}&fl={','.join(FIELDS)}"):
+            rows = self.rules.shown(values_of(lines), most)[:left]
+            left -= len(rows)
+            yield [[row[place] for place in places] for row in rows]
+            if not left:
+                return
+
+    def timestamps(self, query: str, limit: Optional[int] = None) -> Iterator[list[str]]:
+        """Yields the timestamps of the captures that may be shown, of the first `limit`."""
+        if self.rules:
+            for rows in self.values(query, ("timestamp",), limit):
+                yield [stamp for stamp, in rows]
+            return
+        bound = "" if limit is None else f"&limit={limit}"
+        for found in self.lines(f"{query}&fl=timestamp{bound}"):
+            yield [line.decode() for line in found]
 
     def row_lines(self, query: str) -> Iterator[list[bytes]]:
         """Yields the lines of the captures in `output=json`."""
@@ -172,7 +254,7 @@ class Source:
 
 def most_state(each: CollectionSettings) -> int:
     """Returns the most bytes of the state of a collection in JSON, with its name."""
-    return 256 + 160 * len(each.indexes)
+    return 256 + 160 * each.most_files
 
 
 def changed() -> Refusal:

@@ -10,6 +10,7 @@ import regex
 
 from .refusal import Refusal
 from .rows import PLACES, Row
+from .work import Work
 
 SPECIAL = frozenset("\\^$.|?*+()[]{}")  # characters that a literal text has not
 LONGEST = 1000  # characters of a regular expression
@@ -45,11 +46,13 @@ class Condition(NamedTuple):
 class Conditions:
     """Conditions that all have to hold.
 
-    `seconds` is the time for all regular expressions of a query.
+    `seconds` is the time for all regular expressions of a query, as far as `work` has that.
     """
 
-    def __init__(self, conditions: Sequence[Condition], seconds: float) -> None:
+    def __init__(self, conditions: Sequence[Condition], seconds: float, work: Work) -> None:
         self._conditions = conditions
+        self._work = work
+        self._step = min(STEP, work.step)
         self._left = seconds
         self._end = 0.0
 
@@ -76,8 +79,9 @@ class Conditions:
             raise Refusal("TooSlow", condition.parameter, cause, text)
         match = pattern.fullmatch if condition.test is Test.MATCHES else pattern.match
         try:
-            return match(value, timeout=min(STEP, left)) is not None
+            return match(value, timeout=min(self._step, left)) is not None
         except TimeoutError:
+            self._work.go_on()
             raise too_slow(condition) from None
 
 

@@ -13,7 +13,7 @@ FIRST, LAST = 0, 10**14 - 1  # timestamps as numbers
 FIRST_MOMENT = "00000101000000"
 MOST = 200  # captures that are read at once
 # A file name and an offset that are after all others.
-_LAST_PLACE = "\U0010ffff 9223372036854775807"
+LAST_PLACE = "\U0010ffff 9223372036854775807"
 
 
 class History:
@@ -31,8 +31,15 @@ class History:
 
     def where(self, field: str, value: str) -> "History":
         """Returns the history of the captures with a value."""
+        return self._with(f"&is={field}:{quoted(value)}")
+
+    def without(self, field: str, value: str) -> "History":
+        """Returns the history of the captures with another value."""
+        return self._with(f"&isnot={field}:{quoted(value)}")
+
+    def _with(self, condition: str) -> "History":
         found = History(self.ask)
-        found._target = f"{self._target}&is={field}:{quoted(value)}"
+        found._target = self._target + condition
         return found
 
     def first(self) -> Optional[Capture]:
@@ -49,6 +56,14 @@ class History:
         """Returns the first capture after a time."""
         return self._first_from(int(timestamp) + 1)
 
+    def up_to(self, timestamp: str) -> Optional[Capture]:
+        """Returns the last capture at a time or before it."""
+        return self._last_in(FIRST, int(timestamp))
+
+    def since(self, timestamp: str) -> Optional[Capture]:
+        """Returns the first capture at a time or after it."""
+        return self._first_from(int(timestamp))
+
     def nearest(self, timestamp: str, original: str = "") -> Optional[Capture]:
         """Returns the capture nearest to a time, and of two that are as near the earlier one.
 
@@ -58,19 +73,22 @@ class History:
             return next((each for each in exact if each.original == original), exact[0])
         return nearest_of((self.before(timestamp), self.after(timestamp)), timestamp)
 
-    def page(self, timestamp: str, most: int) -> tuple[list[Capture], Optional[Capture]]:
-        """Returns the first captures from a time on, about `most`, and the one that follows them.
+    def page(
+        self, timestamp: str, passed: int, most: int
+    ) -> tuple[list[Capture], Optional[Capture], int]:
+        """Returns the first captures from a time on, about `most`, after those of it that were passed.
 
-        Those of one second are on one page if there are no more than `most`.
+        Then the capture that follows them, and how many of its second are before it: those of one
+        second are on one page if there are no more than `most`.
         """
-        found = self._dated(int(timestamp), LAST, most + 1)
+        found = self._dated(int(timestamp), LAST, passed + most + 1)[passed:]
         if len(found) <= most:
-            return found, None
+            return found, None, 0
         following = found.pop()
         kept = [each for each in found if each.timestamp != following.timestamp]
         if kept:
-            return kept, found[len(kept)] if len(kept) < len(found) else following
-        return found, self._first_from(int(following.timestamp) + 1)
+            return kept, found[len(kept)] if len(kept) < len(found) else following, 0
+        return found, following, most + (passed if following.timestamp == timestamp else 0)
 
     def _first_from(self, low: int) -> Optional[Capture]:
         found = self._dated(low, LAST)
@@ -115,7 +133,7 @@ def nearest_of(captures: Iterable[Optional[Capture]], timestamp: str) -> Optiona
 
 def before_time(key: str, timestamp: int) -> str:
     """Returns the parameter with which a query begins at the captures of a key from a time on."""
-    return resumed(f"{key} {timestamp - 1:014} {_LAST_PLACE}") if timestamp > 0 else ""
+    return resumed(f"{key} {timestamp - 1:014} {LAST_PLACE}") if timestamp > 0 else ""
 
 
 def resumed(place: str) -> str:
@@ -125,6 +143,16 @@ def resumed(place: str) -> str:
 def first_moment(digits: str) -> str:
     """Returns the first timestamp that begins with these digits."""
     return digits + FIRST_MOMENT[len(digits) :]
+
+
+def last_moment(digits: str) -> str:
+    """Returns the last timestamp that begins with these digits, and is a date if one does."""
+    full = digits.ljust(14, "9")
+    year, month = full[:4], clamped(full[4:6], 1, 12)
+    day = clamped(full[6:8], 1, calendar.monthrange(max(int(year), 1), month)[1])
+    clock = [clamped(full[8:10], 0, 23), clamped(full[10:12], 0, 59), clamped(full[12:], 0, 59)]
+    made = year + "".join(f"{part:02}" for part in (month, day, *clock))
+    return digits + made[len(digits) :]
 
 
 def seconds_of(timestamp: str) -> int:

@@ -15,19 +15,22 @@ from werkzeug.wrappers import Request, Response
 from warcdx import Capture
 
 from .application import Gateway, rule
-from .browse import responses
-from .browse.raw_captures import RawCapture
-from .history import History, first_moment, quoted
+from .browse import embedding, responses
+from .browse.raw_captures import RawCapture, Window
+from .history import MOST, History, last_moment, quoted
 from .parameters import is_number
 
 LINK_FORMAT = "application/link-format"
+RAW = "id_"  # the mark of a capture as it was archived
+# The values of Sec-Fetch-Dest for what is shown in a window or in a frame.
+WINDOWS = ("document", "iframe", "frame", "embed", "object")
 MOST_MEMENTOS = 5000  # of a page of a TimeMap
 MOST_LINKS = 6000  # bytes of the field Link
 # What stays as it is in a URL of a link: the characters of RFC 3986.
 _SAFE = "%:/?#[]@!$&'()*+,;=-._~"
 _ENCODED = re.compile(r"[A-Za-z][A-Za-z0-9+.-]*%3A", re.IGNORECASE)
 _ONE_SLASH = re.compile(r"(https?|ftp):/(?!/)", re.IGNORECASE)
-_PAGE = re.compile(r"([0-9]{14})/(.*)", re.DOTALL)
+_PAGE = re.compile(r"([0-9]{14})(?:-([0-9]{1,6}))?/(.*)", re.DOTALL)
 # A replayed page of other servers: it is answered by the raw capture, or by a calendar.
 _REPLAYED = re.compile(r"([0-9]{1,14})(?:[a-z]{2}_)?/(.+)", re.DOTALL)
 _CALENDAR = re.compile(r"([0-9]{0,14})\*/(.+)", re.DOTALL)
@@ -79,15 +82,15 @@ class Resource:
         self.url, self.original = url, url if has_scheme else f"http://{url}"
         self.root = f"{request.root_url.rstrip('/')}/{collection or 'web'}"
         self.collection = gateway.collection(collection)
-        self.history = History(functools.partial(gateway.captures, self.collection), url=url)
+        self.history = History(functools.partial(gateway.readable, self.collection), url=url)
 
-    def memento(self, capture: Capture) -> str:
+    def memento(self, capture: Capture, mark: str = "id_") -> str:
         """Returns the URL of a capture as it was archived. The line of an index may have no URL."""
         url = capture.original if ":" in capture.original else self.original
-        return f"{self.root}/{capture.timestamp}id_/{escaped(url)}"
+        return f"{self.root}/{capture.timestamp}{mark}/{escaped(url)}"
 
-    def time_map(self, timestamp: str = "") -> str:
-        start = f"{timestamp}/" if timestamp else ""
+    def time_map(self, timestamp: str = "", passed: int = 0) -> str:
+        start = f"{timestamp}-{passed}/" if passed else f"{timestamp}/" if timestamp else ""
         return f"{self.root}/timemap/link/{start}{escaped(self.original)}"
 
     def time_gate(self) -> str:
@@ -137,8 +140,11 @@ def time_gate(gateway: Gateway, request: Request, collection: str, sent: str) ->
     RFC 7089, sections 4.2.1 and 4.5.3: a datetime that can't be read has status 400.
     """
     if found := _REPLAYED.fullmatch(sent):
+        if is_window(request):
+            return capture_of(gateway, request, collection, found[2], found[1], "")
         resource = Resource(gateway, request, collection, found[2])
-        return redirect(f"{resource.root}/{found[1]}id_/{escaped(resource.url)}", {})
+        target = f"{resource.root}/{found[1]}id_/{escaped(resource.url)}"
+        return redirect(target, {"Vary": "Sec-Fetch-Dest"})
     if found := _CALENDAR.fullmatch(sent):
         resource = Resource(gateway, request, collection, found[2])
         year = f"&year={found[1][:4]}" if len(found[1]) >= 4 else ""
@@ -161,30 +167,37 @@ def time_gate(gateway: Gateway, request: Request, collection: str, sent: str) ->
 def time_map(gateway: Gateway, request: Request, collection: str, sent: str) -> Response:
     """Lists the captures of a URL, a page at a time (RFC 7089, section 5).
 
-    A page begins at the time that is before the URL. It links the next one.
+    A page begins at the time that is before the URL. A number behind it is how many captures of
+    this second are on pages before. A page links the next one.
     """
     found = _PAGE.fullmatch(sent)
-    start, url = (found[1], found[2]) if found else ("", sent)
-    return time_map_of(gateway, Resource(gateway, request, collection, url), start)
+    if found is None:
+        return time_map_of(gateway, Resource(gateway, request, collection, sent))
+    resource = Resource(gateway, request, collection, found[3])
+    return time_map_of(gateway, resource, found[1], int(found[2] or 0))
 
 
-def time_map_of(gateway: Gateway, resource: Resource, start: str = "") -> Response:
-    with gateway.slot():
-        captures, following = resource.history.page(start or "0" * 14, MOST_MEMENTOS)
+def time_map_of(
+    gateway: Gateway, resource: Resource, start: str = "", passed: int = 0
+) -> Response:
+    page = resource.history.page(start or "0" * 14, passed, MOST_MEMENTOS)
+    captures, following, before = page
     if not captures:
         return Response("there is no capture of this URL\n", 404)
     first, last = captures[0], captures[-1]
     times = {"from": date_of(first), "until": date_of(last)}
     lines = [
         link(resource.original, rel="original"),
-        link(resource.time_map(start), rel="self", type=LINK_FORMAT, **times),
+        link(resource.time_map(start, passed), rel="self", type=LINK_FORMAT, **times),
         link(resource.time_gate(), rel="timegate"),
     ]
     if following is not None:
-        next_map = resource.time_map(following.timestamp)
+        next_map = resource.time_map(following.timestamp, before)
         begin = {"from": date_of(following)}
         lines.append(link(next_map, rel="timemap", type=LINK_FORMAT, **begin))
-    for capture in captures:
+    for number, capture in enumerate(captures):
+        if number % MOST == 0:
+            gateway.work.go_on()
         relations = ["first"] if capture is first and not start else []
         relations += ["last"] if capture is last and following is None else []
         lines.append(resource.memento_link(capture, *relations))
@@ -197,18 +210,40 @@ def raw_capture(
     """Answers with a capture as it was archived, or sends a client to the nearest one."""
     if not (is_number(timestamp) and len(timestamp) <= 14):
         raise NotFound()
+    return capture_of(gateway, request, collection, sent, timestamp, RAW)
+
+
+def is_window(request: Request) -> bool:
+    """Returns whether a browser asks for what it shows in a window or in a frame."""
+    return request.headers.get("Sec-Fetch-Dest") in WINDOWS
+
+
+def capture_of(
+    gateway: Gateway, request: Request, collection: str, sent: str, timestamp: str, mark: str
+) -> Response:
+    """Answers with a capture, with or without the mark of one that is as it was archived."""
     resource = Resource(gateway, request, collection, sent)
-    capture = resource.history.nearest(first_moment(timestamp), resource.original)
+    capture = resource.history.nearest(last_moment(timestamp), resource.original)
     if capture is None:
         raise NotFound("there is no capture of this URL")
     if capture.timestamp != timestamp:
-        return redirect(resource.memento(capture), {})
+        return redirect(resource.memento(capture, mark), {})
+    window = None
+    if is_window(request):
+        page = functools.partial(
+            embedding.embedded,
+            gateway,
+            resource.collection,
+            capture,
+            linked=lambda url: f"{resource.root}/{capture.timestamp}/{escaped(url)}",
+        )
+        window = Window(resource.memento(capture, ""), mark == "", page)
     own = {"Memento-Datetime": date_of(capture)}
     if links := resource.links(capture):
         own["Link"] = links
     with contextlib.ExitStack() as stack:
-        stack.enter_context(gateway.slot())
-        raw = RawCapture(request, resource.collection, resource.history.ask, capture, stack)
+        ask = resource.history.ask
+        raw = RawCapture(request, resource.collection, ask, capture, stack, window)
         response = raw.response(own, functools.partial(_capture_of, resource, capture))
     return response
 

@@ -25,10 +25,9 @@ FIELD = "|".join(map(re.escape, (*FIELDS, *PYWB_NAMES, *ADDED)))
 COLUMNS = f"(?:{FIELD})(?:,(?:{FIELD}))*"
 FLAG = ("true|false", "BadFlag", "it is true or false")
 STAMP = ("[0-9]{1,14}", "BadStamp", "it is 1 to 14 digits")
-LIMIT = "-?0{0,6}(?:[1-9][0-9]{0,5}|1000000)"
+LIMIT = "-?0{0,6}[1-9][0-9]{0,17}"
 SORTS = "default|regular|reverse|closest"
 NUMBER = "[0-9]{1,7}"
-NEVER = ("false", "Unknown", "this server counts no captures that are left out")
 # Parameters that may be given once: what each may be, and how it is refused. Each is checked where the
 # program checks it, so that of two that are at fault both name the same one.
 SINGLE = {
@@ -37,7 +36,7 @@ SINGLE = {
     "matchType": ("exact|prefix|host|domain", "BadMatch", "it is exact, prefix, host or domain"),
     "from": STAMP,
     "to": STAMP,
-    "limit": (LIMIT, "BadLimit", "it is a number from 1 to 1,000,000, or such a number after a -"),
+    "limit": (LIMIT, "BadLimit", "it is a number from 1 on, or such a number after a -"),
     "resumeKey": ("[^ ]* [0-9]{14} .+ [0-9]+", "BadResume", "it isn't the resume key of a page"),
     "showResumeKey": FLAG,
     "fl": (COLUMNS, "BadField", f"it is a list of fields, separated by commas: {FIELD_LIST}"),
@@ -55,8 +54,8 @@ SINGLE = {
     "showGroupCount": FLAG,
     "showUniqCount": FLAG,
     "offset": (NUMBER, "BadPage", "it is a number of at most 7 digits"),
-    "showSkipCount": NEVER,
-    "lastSkipTimestamp": NEVER,
+    "showSkipCount": FLAG,
+    "lastSkipTimestamp": FLAG,
 }
 KNOWN = frozenset((*TESTS, *SINGLE, "filter", "collapse"))
 EMPTY = frozenset(("url", "key", *TESTS))  # which mean something without a value
@@ -67,7 +66,10 @@ CLIENT_FLAGS = frozenset(
 # Parameters that change no answer here: a number against caches, the name of a function of a page's
 # script, and what depends on columns that indexes in CDXJ don't have.
 IGNORED = frozenset(("_", "callback", "omitSelfRedirects"))
-TRANSLATED = CLIENT_FLAGS | IGNORED | frozenset("closest collapseTime limit output page sort".split())
+TRANSLATED = (
+    CLIENT_FLAGS | IGNORED | frozenset("closest collapseTime limit output page resumeKey sort".split())
+)
+PLACE = re.compile(r"[A-Za-z0-9*._%-]+(?:(?:\+|%20)[A-Za-z0-9*._%-]+)+")  # a resume key, encoded
 ESCAPED = re.compile("[%+]")
 CHECKS = {name: re.compile(pattern, re.DOTALL) for name, (pattern, _, _) in SINGLE.items()}
 
@@ -198,11 +200,18 @@ class Given:
         """Returns the refusal of a parameter because of other ones or of the settings."""
         return Refusal(name, parameter, cause, self.values.get(parameter, ""))
 
+    def match(self) -> tuple[str, str]:
+        """Returns how keys are matched, and the URL without the star that may say so."""
+        url = self.values.get("url", "")
+        if match := self.values.get("matchType"):
+            return match, url
+        if url.startswith("*."):
+            return "domain", url[2:]
+        return ("prefix", url[:-1]) if url.endswith("*") else ("exact", url)
+
     def is_one_key(self) -> bool:
         """Returns whether the match is `exact`."""
-        url = self.values.get("url", "")
-        has_star = url.startswith("*.") or url.endswith("*")
-        return self.values.get("matchType", "prefix" if has_star else "exact") == "exact"
+        return self.match()[0] == "exact"
 
 
 def translated(query: str) -> str:
@@ -217,6 +226,8 @@ def translated(query: str) -> str:
             piece, value = f"{name}={value.lower()}", value.lower()
         if name == "closest" and value == "now":
             piece = f"closest={datetime.now(timezone.utc):%Y%m%d%H%M%S}"
+        elif name == "resumeKey" and PLACE.fullmatch(value):
+            piece = f"resumeKey={value}"  # it was encoded once more than it is written
         elif name == "output" and value == "txt":
             piece = "output=text"
         elif name == "collapseTime":

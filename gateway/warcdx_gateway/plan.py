@@ -11,12 +11,19 @@ from .rows import GROUPED, ORIGINALS, UNKNOWN, Output
 from .settings import Limits
 
 MOST_QUERY = 65_536  # bytes
-BLOCK = 3000  # captures: the unit of `pageSize`
+BLOCK = 3000  # captures of a usual length: the unit of `pageSize`
+LINE = 300  # bytes of a usual line
 USUAL_SIZE = 5  # blocks of a page
 TARGET = ("url", "key", "matchType", "from", "to")  # parameters that the program gets unchanged
 RESOLVED = ("mimetype", "statuscode")  # fields that a revisit has of its original
 TO_PYWB = {name: other for other, name in PYWB_NAMES.items()}
 USUAL = list(FIELDS[:7])
+ADDING = {
+    "showGroupCount": "groupcount",
+    "showUniqCount": "uniqcount",
+    "lastSkipTimestamp": "endtimestamp",
+    "showSkipCount": "skipcount",
+}  # flags, each of which adds a column
 
 
 class Order(Enum):
@@ -29,10 +36,36 @@ class Order(Enum):
 
 
 class PageNumber(NamedTuple):
-    """A page of `size` captures, by its number from 0."""
+    """A page of some blocks, by its number from 0."""
 
     number: int
-    size: int
+    blocks: int
+
+    @property
+    def size(self) -> int:
+        """The bytes of the indexes on a page, about."""
+        return self.blocks * BLOCK * LINE
+
+
+class Target(NamedTuple):
+    """Which captures a request is about, before its filters: what `query` selects, from one time to another.
+
+    It has a `url`, without the stars that say how it is matched, or a `key`.
+    """
+
+    query: str
+    match: str
+    url: str
+    key: Optional[str]
+    first: str
+    last: str
+
+    @property
+    def ranged(self) -> str:
+        """The query for the captures of one range of places: the times are one for a single key alone."""
+        names = ("from", self.first), ("to", self.last)
+        times = "".join(f"&{name}={value}" for name, value in names if value)
+        return self.query + times * (self.match == "exact")
 
 
 class Plan:
@@ -40,17 +73,17 @@ class Plan:
 
     If `is_plain`, the program does all of it: the answer is the page of the query `text`, with the
     limit and the resume keys. If not, the gateway does the rest with the captures of the query
-    `selected`. `fields` are pairs of a column and its name in the answer.
+    `selected`. `fields` are pairs of a column and its name in the answer. Unless `is_open`, some
+    captures aren't shown, and the gateway leaves them out before anything else is done.
     """
 
-    def __init__(self, given: Given, limits: Limits) -> None:
+    def __init__(self, given: Given, limits: Limits, is_open: bool) -> None:
         """Raises Refusal for parameters that exclude each other or that the settings refuse."""
         self.form = given.form
         self.resolves = given.is_true("resolveRevisits")
         self.counts_duplicates = given.is_true("showDupeCount")
         self.counts_pages = given.is_true("showNumPages")
         self.shows_key = given.is_true("showResumeKey")
-        self.is_one_key = given.is_one_key()
         self.closest = given.values.get("closest", "")
         self.skip = int(given.values.get("offset", "0"))
         key = given.pieces.get("resumeKey")
@@ -76,9 +109,14 @@ class Plan:
                 self.conditions.append(condition)
             else:
                 pieces.append(piece)
+        self.target = target_of(given)
+        self.uncollapsed = "&".join(pieces)
         in_program = self._program_collapse(given)
-        pieces += [in_program] if in_program else []
-        self.collapses = [] if in_program else given.collapses
+        self.program_collapse = in_program if is_open else ""
+        pieces += [self.program_collapse] if self.program_collapse else []
+        self.collapses = [] if self.program_collapse else given.collapses
+        # The program knows what such a collapse needs of the capture before by the resume key alone.
+        self.collapses_places = bool(in_program)
         in_order = self.order is Order.FORWARD
         if self.skip and (self.page is not None or not in_order):
             cause = "it is for captures in the order of the index, without page"
@@ -92,7 +130,7 @@ class Plan:
         self.text = "&".join(pieces)
         has_steps = self.conditions or self.collapses or self.resolves or self.counts_duplicates
         is_renamed = self.output is Output.JSON and columns != names
-        is_changed = has_steps or self.skip or is_renamed or not asked.isdisjoint(UNKNOWN)
+        is_changed = has_steps or self.skip or not is_open or is_renamed or not asked.isdisjoint(UNKNOWN)
         self.is_plain = in_order and not is_changed and self.output is not Output.LINES
 
     def _names(self, given: Given) -> list[str]:
@@ -103,7 +141,7 @@ class Plan:
             names.append("dupecount")
         if self.resolves and is_pywb and text is None:
             names += ORIGINALS
-        for flag, column in (("showGroupCount", "groupcount"), ("showUniqCount", "uniqcount")):
+        for flag, column in ADDING.items():
             if given.is_true(flag) and column not in names:
                 names.append(column)
         asked = set(names)
@@ -128,13 +166,6 @@ class Plan:
         return ""
 
     @property
-    def is_exact(self) -> bool:
-        """Whether it is for the captures of one key, as they come: a key may have a million of them."""
-        has_steps = self.collapses or self.resolves or self.counts_pages or self.counts_duplicates
-        is_costly = has_steps or any(each.pattern is not None for each in self.conditions)
-        return self.is_one_key and not is_costly and self.order is Order.FORWARD
-
-    @property
     def is_array(self) -> bool:
         """Whether the answer is an array of rows, which is empty without captures."""
         return self.output is Output.JSON and not self.counts_pages
@@ -150,14 +181,8 @@ class Plan:
             pieces.append(f"limit={limit}")
         return "&".join(piece for piece in pieces if piece)
 
-    @property
-    def selection(self) -> str:
-        """Returns what decides which captures are selected, as a key of a table of pages."""
-        size = self.page.size if self.page is not None else 0
-        return repr((self.selected, self.conditions, self.collapses, self.resolves, size))
 
-
-def plan_of(query: str, form: Form, limits: Limits) -> Plan:
+def plan_of(query: str, form: Form, limits: Limits, is_open: bool) -> Plan:
     """Returns what a query text selects.
 
     Raises Refusal, for the first parameter that is at fault.
@@ -168,7 +193,7 @@ def plan_of(query: str, form: Form, limits: Limits) -> Plan:
     for piece in query.replace("\r", "%0D").replace("\n", "%0A").split("&"):
         if piece:
             given.add(piece)
-    return Plan(given, limits)
+    return Plan(given, limits, is_open)
 
 
 def order_of(given: Given, limits: Limits) -> tuple[Order, Optional[int]]:
@@ -176,10 +201,7 @@ def order_of(given: Given, limits: Limits) -> tuple[Order, Optional[int]]:
     text = given.values.get("limit")
     if text is None and given.is_true("fastLatest"):
         text = "-1"
-    limit = (limits.usual or None) if text is None else abs(int(text))
-    if limit is not None and limit > limits.largest:
-        cause = f"this server gives at most {limits.largest} captures"
-        raise given.bad("BadLimit", "limit", cause)
+    limit = (limits.usual or None) if text is None else min(abs(int(text)), limits.largest)
     order = sort_of(given)
     if text is not None and text.startswith("-"):
         if order is not Order.FORWARD:
@@ -211,8 +233,8 @@ def sort_of(given: Given) -> Order:
 def page_of(given: Given, limits: Limits) -> Optional[PageNumber]:
     values = given.values
     most = max(limits.largest // BLOCK, 1)
-    size = int(values.get("pageSize", min(USUAL_SIZE, most))) * BLOCK
-    if size > most * BLOCK:
+    blocks = int(values.get("pageSize", min(USUAL_SIZE, most)))
+    if blocks > most:
         raise given.bad("BadPage", "pageSize", f"this server gives at most {most} blocks")
     if "page" not in values and not given.is_true("showNumPages"):
         return None
@@ -222,4 +244,11 @@ def page_of(given: Given, limits: Limits) -> Optional[PageNumber]:
     for name, bad in (("limit", "-"), ("sort", "r"), ("reverse", "t")):
         if values.get(name, "").startswith(bad) and values[name] != "regular":
             raise given.bad("BadPage", name, "pages are in the order of the index")
-    return PageNumber(int(values.get("page", "0")), size)
+    return PageNumber(int(values.get("page", "0")), blocks)
+
+
+def target_of(given: Given) -> Target:
+    values = given.values
+    match, url = given.match()
+    query = "&".join(given.pieces[name] for name in TARGET[:3] if name in given.pieces)
+    return Target(query, match, url, values.get("key"), values.get("from", ""), values.get("to", ""))

@@ -43,8 +43,14 @@ class Refusal(Exception):
 
 def printable(text: str) -> str:
     """Returns a text on one line, without controls, and cut if it is long."""
-    cut = text if len(text) <= MOST_SHOWN else text[:MOST_SHOWN] + ".."
-    return "".join(each if each.isprintable() else f"%{ord(each):02X}" for each in cut)
+    return without_controls(text if len(text) <= MOST_SHOWN else text[:MOST_SHOWN] + "..")
+
+
+def without_controls(text: str) -> str:
+    """Returns a text in which what a terminal wouldn't show is written with `%` and digits."""
+    if text.isprintable():
+        return text
+    return "".join(each if each.isprintable() else f"%{ord(each):02X}" for each in text)
 
 
 def program_refusal(name: str, given: Mapping[str, str]) -> Refusal:

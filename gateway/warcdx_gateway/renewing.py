@@ -34,9 +34,8 @@ class Opening:
 
     def __init__(self, each: CollectionSettings, known: Container[Identity]) -> None:
         self.name = each.name
-        self.generation = present(each)
+        self._paths, self.generation = present(each)
         self.check: Optional[Check] = None
-        self._paths = list(map(str, each.indexes))
         stamp = self.generation.stamp
         self.unchecked = [n for n, identity in enumerate(stamp) if identity not in known]
         # Of two writes within a tick of the clock the second one doesn't change the time.
@@ -199,7 +198,7 @@ class Renewal:
             return
         self._looked = now
         self._stamp = ()  # without one of the files
-        self._stamp = stamp_of(map(os.stat, self._collection.settings.indexes))
+        self._stamp = stamp_of(map(os.stat, self._collection.settings.files))
         self._collection.is_old = self._stamp != self._collection.generation.stamp
         if not self._collection.is_old:
             self._forget()
@@ -238,11 +237,12 @@ class Renewal:
             say(f"{collection.name}: {state}: {command.reason_of(error)}")
 
 
-def present(each: CollectionSettings) -> Generation:
-    """Returns the files that have the names of a collection's indexes at one moment. Raises OSError."""
+def present(each: CollectionSettings) -> tuple[list[str], Generation]:
+    """Returns the files that are a collection's indexes at one moment, and their paths. Raises OSError."""
     for _ in range(TRIES):
-        generation = Generation(each.indexes)
-        if stamp_of(map(os.stat, each.indexes)) == generation.stamp:
-            return generation
+        files = each.files
+        generation = Generation(files)
+        if stamp_of(map(os.stat, each.files)) == generation.stamp:
+            return files, generation
         generation.close()
     raise OSError("the indexes are being changed")

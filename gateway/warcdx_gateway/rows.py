@@ -4,7 +4,7 @@ import re
 from collections.abc import Sequence
 from dataclasses import dataclass
 from enum import Enum
-from typing import Any, Optional
+from typing import Any, Optional, Union
 from urllib.parse import quote_plus
 
 from warcdx import FIELDS
@@ -14,9 +14,10 @@ from .refusal import Refusal
 # The fields of the program, the line of the index, and the fields that the gateway makes.
 ORIGINALS = ("orig.length", "orig.offset", "orig.filename")
 # Columns of other servers that indexes in CDXJ don't have. And those of captures that a collapse
-# has made one: the last timestamp, how many they are, and how many digests they have.
+# has made one: the last timestamp, how many they are, how many digests they have, and how many were
+# left out.
 UNKNOWN = ("redirect", "robotflags")
-GROUPED = ("endtimestamp", "groupcount", "uniqcount")
+GROUPED = ("endtimestamp", "groupcount", "uniqcount", "skipcount")
 COLUMNS = (*FIELDS, "line", "dupecount", *UNKNOWN, *GROUPED, *ORIGINALS)
 PLACES = {name: place for place, name in enumerate(COLUMNS)}
 KEY, STAMP, DIGEST, OFFSET, NAME, LINE, COUNT = (
@@ -24,8 +25,8 @@ KEY, STAMP, DIGEST, OFFSET, NAME, LINE, COUNT = (
     for name in ("urlkey", "timestamp", "digest", "offset", "filename", "line", "dupecount")
 )
 MIME, STATUS, LENGTH = (PLACES[name] for name in ("mimetype", "statuscode", "length"))
-END, GROUP_COUNT, DIGEST_COUNT = (PLACES[name] for name in GROUPED)
-ADDED = ["", "0", "-", "-", "", "1", "1", "-", "-", "-"]
+END, GROUP_COUNT, DIGEST_COUNT, SKIPPED = (PLACES[name] for name in GROUPED)
+ADDED = ["", "0", "-", "-", "", "1", "1", "0", "-", "-", "-"]
 MOST_DIGESTS = 100_000  # of a group
 MEMBERS = ("url", "mime", "status", "digest", "length", "offset", "filename")
 
@@ -75,6 +76,14 @@ class Collapse:
     count: Optional[int] = None
 
 
+class Unknown(Enum):
+    PART = 0
+
+
+UNKNOWN_PART = Unknown.PART
+Part = Union[str, Unknown, None]  # of a value; None is before the first capture
+
+
 class Output(Enum):
     """How captures are written."""
 
@@ -87,26 +96,26 @@ class Output(Enum):
 class Collapser:
     """Gives the first of consecutive captures with the same part of a field.
 
-    With several collapses, each is of what the one before it gives. It holds one part for each.
-    `previous` is the capture before the first, which each collapse has given.
+    With several collapses, each is of what the one before it gives. It holds one part for each in `last`,
+    which is what each has got before the first capture. With UNKNOWN_PART a collapse gives the first
+    capture that it gets to none after it: what it then gives is what it would give in any case.
     """
 
-    def __init__(self, collapses: Sequence[Collapse], previous: Optional[Row] = None) -> None:
+    def __init__(self, collapses: Sequence[Collapse], last: Sequence[Part]) -> None:
         self._parts = [(PLACES[collapse.field], collapse.count) for collapse in collapses]
-        self._last: list[Optional[str]] = [
-            None if previous is None else previous[place][:count] for place, count in self._parts
-        ]
+        self.last = [*last]
 
     def select(self, rows: list[Row]) -> list[Row]:
         for number, (place, count) in enumerate(self._parts):
             given: list[Row] = []
-            last = self._last[number]
+            last = self.last[number]
             for row in rows:
                 part = row[place][:count]
                 if part != last:
-                    given.append(row)
+                    if last is not UNKNOWN_PART:
+                        given.append(row)
                     last = part
-            self._last[number] = last
+            self.last[number] = last
             rows = given
         return rows
 
@@ -118,8 +127,8 @@ class Collapser:
 class Grouper(Collapser):
     """Does one collapse, and gives the columns GROUPED. It holds the digests of a group."""
 
-    def __init__(self, collapses: Sequence[Collapse], previous: Optional[Row] = None) -> None:
-        super().__init__(collapses, previous)
+    def __init__(self, collapses: Sequence[Collapse], last: Sequence[Part]) -> None:
+        super().__init__(collapses, last)
         self._first: Optional[Row] = None
         self._digests: set[int] = set()
 
@@ -138,6 +147,7 @@ class Grouper(Collapser):
                     raise Refusal("TooMany", "collapse", cause)
                 first[END], first[GROUP_COUNT] = row[STAMP], str(int(first[GROUP_COUNT]) + 1)
                 first[DIGEST_COUNT] = str(len(self._digests))
+                first[SKIPPED] = str(int(first[GROUP_COUNT]) - 1)
         return done
 
     def rest(self) -> list[Row]:

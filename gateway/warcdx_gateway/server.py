@@ -6,12 +6,14 @@ import logging
 import os
 import pathlib
 import resource
+import select
 import shutil
 import signal
 import socket
 import sys
 import tempfile
-from collections.abc import Callable, Container, Iterator
+import time
+from collections.abc import Callable, Container, Iterable, Iterator, Sequence
 from types import FrameType
 from typing import Any, Optional
 
@@ -30,17 +32,22 @@ from .application import Gateway
 from .collection import Collection, most_state
 from .generation import Identity
 from .parents import end_with_parent
-from .refusal import NAME, say
+from .refusal import NAME, say, without_controls
 from .renewing import AT_A_TIME, Openings, Renewal
+from .rules import MOST as MOST_RULES
+from .rules import RulesFile
 from .settings import BadSettings, Settings
-from .shared import Beat, Board, Metrics, Shares
+from .shared import Beat, Board, Metrics
+from .waiting import COSTLY_LEVEL, Costs, Shares, Waiting, address_of, queue_of
+from .work import MOST_FREE, Connection, Lease, NeedsSlot
 
 BACKLOG = 1024  # connections that wait for a worker
 MOST_LINE = 70_000  # bytes of the line of a request: a query has at most 65,536
 ENDS = (signal.SIGTERM, signal.SIGINT, signal.SIGQUIT, signal.SIGABRT)
 SILENCE = 2  # seconds for a client to send its request when a worker ends
+PAUSE = 0.05  # seconds until a worker looks again for a slot for those that wait
 OTHER_FILES = 200  # that a process may open beside indexes
-LEAST_FILES = 64  # beside indexes, without which requests would fail
+LEAST_FILES = 128  # beside indexes, without which requests would fail
 
 
 class Log(gunicorn.glogging.Logger):
@@ -50,6 +57,14 @@ class Log(gunicorn.glogging.Logger):
 
     def exception(self, msg: str, *args: Any, **kwargs: Any) -> None:
         self.error_log.error(f"{msg}: %s", *args, sys.exc_info()[1])
+
+    def atoms(self, *args: Any, **kwargs: Any) -> dict[str, Any]:
+        """Returns what a line of the access log may have, without what acts on a terminal."""
+        found = super().atoms(*args, **kwargs).items()
+        return {
+            name: without_controls(value) if isinstance(value, str) else value
+            for name, value in found
+        }
 
     def info(self, msg: str, *args: Any, **kwargs: Any) -> None:
         if kwargs.get("exc_info"):
@@ -92,6 +107,45 @@ class Worker(gunicorn.workers.sync.SyncWorker):
 
     is_reading = False  # a request
 
+    def run(self) -> None:
+        """Answers a new request, and one that has waited, as long as there are any."""
+        for listener in self.sockets:
+            listener.setblocking(False)
+        waiting = poll_of(self.app.waiting.descriptors)
+        new = poll_of([*self.sockets, self.PIPE[0]])
+        anything = poll_of([*self.app.waiting.descriptors, *self.sockets, self.PIPE[0]])
+        while self.alive and self.is_parent_alive():
+            self.notify()
+            has_begun = any([self.accept(listener) for listener in self.sockets])
+            waits = bool(waiting.poll(0))
+            has_gone_on = waits and self.alive and self._go_on()
+            if has_begun or has_gone_on:
+                continue
+            if waits:  # there is no slot for them
+                new.poll(PAUSE * 1000)
+            else:
+                anything.poll(self.timeout * 1000)
+            with contextlib.suppress(BlockingIOError):
+                os.read(self.PIPE[0], 64)  # a byte for each signal
+        for client in self.app.waiting.rest():
+            self._answer(client)
+
+    def _go_on(self) -> bool:
+        """Answers a request that has waited, if it has a slot now or is too late."""
+        with self.app.shares.next() as client:
+            if client is None:
+                return False
+            self._answer(client)
+        return True
+
+    def _answer(self, client: Connection) -> None:
+        try:
+            address = client.getpeername()
+        except OSError:  # it has left
+            client.close()
+        else:
+            self.handle(self.sockets[0], client, address)
+
     def init_signals(self) -> None:
         super().init_signals()
         signal.siginterrupt(signal.SIGTERM, True)  # else it is handled after a read or write only
@@ -111,8 +165,8 @@ class Worker(gunicorn.workers.sync.SyncWorker):
         signal.alarm(SILENCE)
 
     def handle_silence(self, sig: int, frame: Optional[FrameType]) -> None:
-        """Ends at once if the client hasn't sent its request yet."""
-        if self.is_reading:
+        """Ends at once if the client hasn't sent its request yet, or the master was killed."""
+        if self.is_reading or os.getppid() != self.ppid:
             sys.exit(0)
 
     def handle(self, listener: Any, client: socket.socket, addr: Any) -> None:
@@ -122,42 +176,76 @@ class Worker(gunicorn.workers.sync.SyncWorker):
         finally:
             self.is_reading = False
 
-    def handle_request(self, listener: Any, req: Any, client: socket.socket, addr: Any) -> None:
+    def handle_request(self, listener: Any, req: Any, client: Connection, addr: Any) -> None:
         """Answers a request. gunicorn would take a field SCRIPT_NAME of the client for its own."""
         self.is_reading = False
         req.headers = [each for each in req.headers if each[0] != "SCRIPT_NAME"]
-        super().handle_request(listener, req, client, addr)
+        forwarded = [value for name, value in req.headers if name == "X-FORWARDED-FOR"]
+        address = address_of(str(addr[0]) if addr else "", "".join(forwarded[-1:]))
+        # Two requests with bodies may have one URI, and differ in what they cost.
+        costs, name = self.app.costs, "" if req.method == "POST" else f"{req.method} {req.uri}"
+        is_new = client.lease is Lease.FREE and not client.is_for_metrics
+        is_costly = costs.level(name) > 0 or costs.level(address or "") > COSTLY_LEVEL
+        if not (is_new and is_costly):
+            try:
+                super().handle_request(listener, req, client, addr)
+                return
+            except NeedsSlot:
+                for each in filter(None, (name, address)):
+                    costs.note(each)
+        if not self.alive:
+            self._answer(client.passed_on(Lease.SLOT))
+        elif not self.app.waiting.put(queue_of(address), client):
+            self._answer(client.passed_on(Lease.NONE))
 
-    def accept(self, listener: Any) -> None:
+    def accept(self, listener: Any) -> bool:
+        """Answers a new request, and returns whether there was one."""
         try:
-            super().accept(listener)
+            client, address = listener.accept()
+        except (BlockingIOError, ConnectionAbortedError):
+            return False
         except OSError:
             if self.alive:
                 raise
+            return False
+        family, arrived = listener.FAMILY, time.monotonic()
+        connection = Connection(client.detach(), Lease.FREE, arrived, family=family)
+        connection.is_for_metrics = listener is not self.sockets[0]
+        connection.setblocking(True)
+        connection.setsockopt(socket.SOL_SOCKET, socket.SO_SNDBUF, MOST_FREE)
+        self.handle(listener, connection, address)
+        return True
 
 
 class Server(BaseApplication):
     """Runs workers until a signal. `read` returns the settings anew, after SIGHUP."""
 
     def __init__(
-        self, settings: Settings, read: Callable[[], Settings], folder: pathlib.Path, listener: int
+        self,
+        settings: Settings,
+        read: Callable[[], Settings],
+        folder: pathlib.Path,
+        listeners: Sequence[int],
     ) -> None:
         self._settings = settings
         self._read = read
         self._folder = folder
-        self._listener = listener
+        self._listeners = listeners
         self._metrics = Metrics(folder, settings.workers)
-        self._next: Optional[tuple[Settings, Openings]] = None  # when their indexes were checked
+        self.waiting, self.costs = Waiting(), Costs()
+        # When their indexes were checked.
+        self._next: Optional[tuple[Settings, RulesFile, Openings]] = None
         self._ended = 0  # workers that aren't counted yet
+        rules = rules_file(settings)
         with contextlib.closing(self._openings(settings, ())) as openings:
             openings.wait()
-            self._use(settings, openings)
+            self._use(settings, rules, openings)
         super().__init__()
 
     def load_config(self) -> None:
         settings = self._settings
         for name, value in {
-            "bind": f"fd://{self._listener}",
+            "bind": [f"fd://{listener}" for listener in self._listeners],
             "proc_name": NAME,
             "workers": settings.workers,
             "worker_class": f"{__name__}.Worker",
@@ -187,7 +275,7 @@ class Server(BaseApplication):
         try:
             settings = self._read()
             known = self._known() if settings.program == self._settings.program else ()
-            self._next = settings, self._openings(settings, known)
+            self._next = settings, rules_file(settings), self._openings(settings, known)
         except (BadSettings, Error, OSError) as error:
             self._keep_settings(error)
 
@@ -196,8 +284,10 @@ class Server(BaseApplication):
         ended, self._ended = self._ended, 0
         self._metrics.ended.inc(ended)
         self._renew()
+        self._rules.look()
+        self._rules_board.write(self._rules.text)
         try:
-            return self._next is not None and self._next[1].advance()
+            return self._next is not None and self._next[2].advance()
         except (Error, OSError) as error:
             self._end_next()
             self._keep_settings(error)
@@ -218,7 +308,8 @@ class Server(BaseApplication):
         super().reload()
 
     def end_checks(self) -> None:
-        """Ends the checks that go on."""
+        """Ends the checks that go on, and the waiting of requests."""
+        self.waiting.end()
         self._end_next()
         for renewal in self._renewals:
             renewal.close()
@@ -239,7 +330,7 @@ class Server(BaseApplication):
         resource.setrlimit(resource.RLIMIT_AS, (memory, memory))
         gc.freeze()  # what the master has loaded stays
         self._metrics.sit()
-        self._gateway.beat = Beat(worker.notify)
+        self._gateway.work.beat = Beat(worker.notify, worker.ppid)
 
     def end_worker(self, server: Master, worker: Any) -> None:
         if os.getpid() == worker.pid:
@@ -261,16 +352,20 @@ class Server(BaseApplication):
                 raise OSError(f"{folder}: no such folder")
         return Openings(settings.collections, settings.program, settings.memory, known)
 
-    def _use(self, settings: Settings, openings: Openings) -> None:
+    def _use(self, settings: Settings, rules: RulesFile, openings: Openings) -> None:
         """Makes the application of settings whose indexes were checked."""
         found = openings.taken()
         collections = {
             each.name: Collection(each, settings, found[each.name]) for each in settings.collections
         }
-        shares = Shares(self._folder, settings.workers, settings.wide)
+        self.shares = Shares(self._folder, self.waiting, settings.wide, settings.limits.wait)
         self._board = Board(sum(map(most_state, settings.collections)))
+        self._rules, self._rules_board = rules, Board(MOST_RULES)
+        self._rules_board.write(rules.text)
         self._settings = settings
-        self._gateway = Gateway(settings, collections, shares, self._metrics, self._board)
+        self._gateway = Gateway(
+            settings, collections, self._metrics, self._board, self._rules_board
+        )
         self._renewals = [Renewal(each, settings.memory) for each in collections.values()]
 
     def _renew(self) -> None:
@@ -296,29 +391,47 @@ class Server(BaseApplication):
 
     def _end_next(self) -> None:
         if self._next is not None:
-            self._next[1].close()
+            self._next[2].close()
         self._next = None
+
+
+def rules_file(settings: Settings) -> RulesFile:
+    """Reads the rules of settings. Raises BadSettings."""
+    path = pathlib.Path(settings.rules) if settings.rules else None
+    return RulesFile(path, settings.program, [each.name for each in settings.collections])
 
 
 def run(settings: Settings, read: Callable[[], Settings]) -> None:
     """Answers requests until a signal. Raises Error or OSError if it can't start."""
-    allow_files(sum(len(each.indexes) for each in settings.collections))
+    allow_files(sum(each.most_files for each in settings.collections))
     master = os.getpid()
     # systemd has a folder for a service in which nothing is removed because of its age.
     base = os.environ.get("RUNTIME_DIRECTORY")
     folder = pathlib.Path(tempfile.mkdtemp(prefix=f"{NAME}-", dir=base))
     try:
-        with bound(settings.address, settings.port) as listener:
-            server = Server(settings, read, folder, listener.fileno())
-            with naming(settings.address, settings.port):
-                listener.listen(BACKLOG)  # no client waits for the check of the indexes
-            address = shown_address(listener)
-            listener.detach()  # gunicorn closes it
-        print(f"http://{address}/", flush=True)
+        addresses = [(settings.address, settings.port), *settings.metrics_address]
+        with contextlib.ExitStack() as stack:
+            listeners = [stack.enter_context(bound(*each)) for each in addresses]
+            server = Server(settings, read, folder, [each.fileno() for each in listeners])
+            for address, listener in zip(addresses, listeners):
+                with naming(*address):
+                    listener.listen(BACKLOG)  # no client waits for the check of the indexes
+            shown = shown_address(listeners[0])
+            for listener in listeners:
+                listener.detach()  # gunicorn closes it
+        print(f"http://{shown}/", flush=True)
         server.run()
     finally:
         if os.getpid() == master:
             shutil.rmtree(folder, ignore_errors=True)
+
+
+def poll_of(readable: Iterable[Any]) -> "select.poll":
+    """Returns what waits until one of these can be read."""
+    poll = select.poll()
+    for each in readable:
+        poll.register(each, select.POLLIN)
+    return poll
 
 
 def bound(address: str, port: int) -> socket.socket:

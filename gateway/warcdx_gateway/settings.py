@@ -9,13 +9,17 @@ import tomllib
 from dataclasses import dataclass, field
 from typing import Any
 
+from warcdx.states import MOST_RUNS, files_of
+
 NAME = re.compile(r"[A-Za-z0-9][A-Za-z0-9._-]{0,63}")
+ADDRESS = re.compile(r"[^\s:]+:[0-9]{1,5}|\[[0-9A-Fa-f:.]+\]:[0-9]{1,5}")
 RESERVED = ("browse", "cdx", "health", "metrics", "web")  # first segments of other paths
 MOST_CAPTURES = 1_000_000  # the largest limit of the program
 MOST_INDEXES = 1024  # of the program
 MOST_WORKERS = 256
+ROOM = 0.75  # of the memory of the machine that workers take by default, as the unit of systemd says too
 LEAST_MEMORY = 256 << 20  # bytes
-WORDS = {int: "a whole number", str: "a text"}
+WORDS = {int: "a whole number", str: "a text", bool: "true or false"}
 
 
 class BadSettings(Exception):
@@ -32,8 +36,8 @@ class Limits:
     have.
 
     The others are times in seconds: `query` for the program to write one piece, `pattern` for all
-    matches of the patterns of a query, `exact` for an answer of one key, `wide` for one that is
-    wide or costly, and `drain` for the answers that are being sent when the gateway is ended.
+    matches of the patterns of a query, `wide` for a request in all, `wait` for one that waits for a
+    slot, and `drain` for the answers that are being sent when the gateway is ended.
     """
 
     usual: int = 0
@@ -44,36 +48,51 @@ class Limits:
     collapses: int = 16
     query: int = 30
     pattern: int = 10
-    exact: int = 60
     wide: int = 600
+    wait: int = 10
     drain: int = 60
 
 
 @dataclass(frozen=True)
 class CollectionSettings:
-    """The settings of a collection: its indexes, and the folders of its archives.
+    """The settings of a collection: its indexes, the folders of its archives, and those to which links there may lead.
 
-    `form` is that of the answers of `/COLLECTION/cdx`: of the Internet Archive, or of pywb.
+    An index is a file, or a folder of runs as `warcdx-update` keeps it. `form` is that of the
+    answers of `/COLLECTION/cdx`: of the Internet Archive, or of pywb. One that isn't `listed` is in
+    no list of collections, and has only paths that begin with `/COLLECTION/`.
     """
 
     name: str
     title: str
     indexes: tuple[pathlib.Path, ...]
     archives: tuple[pathlib.Path, ...] = ()
+    links: tuple[pathlib.Path, ...] = ()
     form: str = "wayback"
+    listed: bool = True
+
+    @property
+    def files(self) -> list[str]:
+        """The files that are the indexes now. Raises `warcdx.faults.CannotOpen`."""
+        return [file for index in self.indexes for file in files_of(index)]
+
+    @property
+    def most_files(self) -> int:
+        """How many files there may be."""
+        return sum(MOST_RUNS if index.is_dir() else 1 for index in self.indexes)
 
 
 @dataclass(frozen=True)
 class Settings:
     """All settings. `main` is the collection of the paths that name none.
 
-    `workers` is how many processes answer requests, and `wide` how many of them answer wide or
-    costly requests at a time. `memory` is the limit of the address space of each, in bytes, and
+    `workers` is how many processes answer requests, and `wide` how many of them do at a time what
+    takes long. `memory` is the limit of the address space of each, in bytes, and
     `timeout` the seconds after which one is ended that makes no piece of its answer.
 
     `hosts` are the names that a request may have in `Host`, beside those of this machine while the
     address is one of it. `origins` are the origins whose pages may read answers, `*` for any.
-    `access_log` is the file that gets a line for each answer, `-` for standard output.
+    `access_log` is the file that gets a line for each answer, `-` for standard output. `rules` is
+    the file that says what may not be shown. `metrics` is the address of the metrics and its port.
     """
 
     collections: tuple[CollectionSettings, ...]
@@ -88,7 +107,15 @@ class Settings:
     hosts: tuple[str, ...] = ()
     origins: tuple[str, ...] = ()
     access_log: str = ""
+    rules: str = ""
+    metrics: str = ""
     limits: Limits = field(default_factory=Limits)
+
+    @property
+    def metrics_address(self) -> list[tuple[str, int]]:
+        """The address and port of the metrics, if they have one."""
+        address, _, port = self.metrics.rpartition(":")
+        return [(address.strip("[]"), int(port))] if port else []
 
     @property
     def is_local(self) -> bool:
@@ -117,18 +144,26 @@ def settings_of(table: dict[str, Any], folder: pathlib.Path) -> Settings:
     collections = tuple(collection_of(name, each, folder) for name, each in tables.items())
     limits = limits_of(table.pop("limits", {}))
     given: dict[str, Any] = {"main": collections[0].name, **values_of(Settings, table)}
+    if given.get("rules"):
+        given["rules"] = str((folder / given["rules"]).absolute())
     settings = Settings(collections=collections, limits=limits, **given)
-    require(settings.main in tables, "main", "is not the name of a collection")
+    main = [each for each in collections if each.name == settings.main]
+    require(bool(main), "main", "is not the name of a collection")
+    is_address = not settings.metrics or bool(ADDRESS.fullmatch(settings.metrics))
+    require(is_address, "metrics", "has to be ADDRESS:PORT")
+    require(main[0].listed, "main", "has paths without its name, so it has to be listed")
     return settings
 
 
 def checked(settings: Settings) -> Settings:
     """Returns the settings, with as many workers as this machine needs if they don't say how many.
 
-    Raises BadSettings.
+    It has room for the `memory` of each of them. Raises BadSettings.
     """
     processors = len(os.sched_getaffinity(0))
-    workers = settings.workers or min(2 * processors, MOST_WORKERS)
+    room = int(ROOM * os.sysconf("SC_PHYS_PAGES") * os.sysconf("SC_PAGE_SIZE"))
+    most = max(min(room // max(settings.memory, 1), MOST_WORKERS), 2)
+    workers = settings.workers or min(2 * processors, most)
     wide = settings.wide or max(min(workers // 2, processors - 1), 1)
     settings = dataclasses.replace(settings, workers=workers, wide=wide)
     require(0 <= settings.port <= 65_535, "port", "has to be from 0 to 65535")
@@ -188,7 +223,7 @@ def collection_of(name: str, table: object, folder: pathlib.Path) -> CollectionS
     is_name = bool(NAME.fullmatch(name)) and name not in RESERVED
     require(is_name, where, "can't be the name of a collection")
     given: dict[str, Any] = {"title": name, **values_of(CollectionSettings, table, where)}
-    for kind in ("indexes", "archives"):
+    for kind in ("indexes", "archives", "links"):
         given[kind] = tuple((folder / each).absolute() for each in given.get(kind, ()))
     found = CollectionSettings(name, **given)
     is_few = 1 <= len(found.indexes) <= MOST_INDEXES

@@ -1,5 +1,5 @@
-"""What the workers share: slots for costly requests, words of the master, and counts for Prometheus."""
-import contextlib
+"""What the workers share: locks of files, words of the master, and counts for Prometheus."""
+import errno
 import fcntl
 import hashlib
 import mmap
@@ -7,16 +7,12 @@ import os
 import pathlib
 import struct
 import time
-from collections.abc import Callable, Iterator
+from collections.abc import Callable
 from typing import BinaryIO, Optional
 
 from prometheus_client import CollectorRegistry, generate_latest, multiprocess, values
 from prometheus_client.metrics import Counter, Gauge, Histogram
 
-from .refusal import Refusal
-
-WAIT = 1.0  # seconds for a slot
-LOOKS = 0.02  # seconds between two looks for a slot
 BEATS = 0.25  # seconds between two beats
 FILE = 1 << 16  # bytes of a file of counts, as prometheus_client makes it
 MOST_SEATS = 4096  # workers that run at a time
@@ -24,10 +20,14 @@ BOUNDS = (0.005, 0.01, 0.025, 0.05, 0.1, 0.25, 0.5, 1.0, 2.5, 5.0, 10.0, 30.0)  
 
 
 class Beat:
-    """Shows the master that a worker goes on, by a system call, at most four times a second."""
+    """Shows the master that a worker goes on, by a system call, at most four times a second.
 
-    def __init__(self, notify: Callable[[], None]) -> None:
+    Raises ConnectionResetError if the master has ended.
+    """
+
+    def __init__(self, notify: Callable[[], None], master: int) -> None:
         self._notify = notify
+        self._master = master
         self._last = 0.0
 
     def __call__(self) -> None:
@@ -35,6 +35,8 @@ class Beat:
         if now - self._last >= BEATS:
             self._last = now
             self._notify()
+            if os.getppid() != self._master:
+                raise ConnectionResetError(errno.ECONNRESET, "the master has ended")
 
 
 class Slots:
@@ -48,46 +50,20 @@ class Slots:
 
     def take(self) -> Optional[tuple[int, BinaryIO]]:
         """Returns the number of a slot that was free and its open file, or None."""
-        for number, path in enumerate(self._paths):
-            file = open(path, "wb")
-            try:
-                fcntl.flock(file, fcntl.LOCK_EX | fcntl.LOCK_NB)
+        for number in range(len(self._paths)):
+            if (file := self.take_one(number)) is not None:
                 return number, file
-            except BlockingIOError:
-                file.close()
         return None
 
-
-class Shares:
-    """How many workers answer wide or costly requests at a time, `wide` of `workers`.
-
-    Of the others at most half wait for a slot, so that exact queries are always answered.
-    """
-
-    def __init__(self, folder: pathlib.Path, workers: int, wide: int) -> None:
-        self._wide = Slots(folder, "wide", wide)
-        self._waiting = Slots(folder, "waiting", (workers - wide) // 2)
-
-    @contextlib.contextmanager
-    def slot(self) -> Iterator[None]:
-        """Takes a slot for a block, and waits a second for it. Raises Refusal with status 503."""
-        taken = self._wide.take() or self._waited()
-        if taken is None:
-            cause = "too many costly queries are being answered; ask again"
-            raise Refusal("TooBusy", "", cause, status=503)
-        with taken[1]:
-            yield
-
-    def _waited(self) -> Optional[tuple[int, BinaryIO]]:
-        place, end = self._waiting.take(), time.monotonic() + WAIT
-        if place is None:
+    def take_one(self, number: int, waits: bool = False) -> Optional[BinaryIO]:
+        """Returns the open file of a slot, or None if another process has it. It can be waited for."""
+        file = open(self._paths[number], "wb")
+        try:
+            fcntl.flock(file, fcntl.LOCK_EX | (0 if waits else fcntl.LOCK_NB))
+        except BlockingIOError:
+            file.close()
             return None
-        with place[1]:
-            while time.monotonic() < end:
-                time.sleep(LOOKS)
-                if taken := self._wide.take():
-                    return taken
-        return None
+        return file
 
 
 class Board:

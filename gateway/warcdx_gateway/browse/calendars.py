@@ -38,32 +38,29 @@ def draw_years(counts: Counts, search: Optional[Search], chosen: str = "") -> Ma
     """Returns the bars of all years, each a link to the captures of its year in a search."""
     years, most = years_of(counts), max(counts.years.values(), default=1)
     bar = min(_MOST_BAR, max(_LEAST_BAR, _WIDTH // max(1, len(years))))
-    width, height = bar * max(1, len(years)), _TOP + _BAR_HEIGHT + _BOTTOM
+    bottom = _TOP + _BAR_HEIGHT
     bars = (
-        _bar(number * bar, bar, f"{year:04}", counts.years[f"{year:04}"], most, search, chosen)
-        for number, year in enumerate(years)
+        element(
+            "svg",
+            element("line", x1=0, x2=bar, y1=bottom, y2=bottom, class_="axis"),
+            _bar(bar, f"{year:04}", counts.years[f"{year:04}"], most, search, chosen),
+            viewBox=f"0 0 {bar} {bottom + _BOTTOM}",
+            width=bar,
+            height=bottom + _BOTTOM,
+            class_="chosen" if f"{year:04}" == chosen else None,
+            role="presentation",
+        )
+        for year in years
     )
-    line = element(
-        "line", x1=0, x2=width, y1=_TOP + _BAR_HEIGHT, y2=_TOP + _BAR_HEIGHT, class_="axis"
-    )
-    drawing = element(
-        "svg",
-        line,
-        bars,
-        viewBox=f"0 0 {width} {height}",
-        width=width,
-        height=height,
-        class_="years",
-        role="group",
-        aria_label="Captures of each year",
-    )
+    name = "Captures of each year"
+    drawing = element("div", bars, class_="years", role="group", aria_label=name)
     return element("div", drawing, class_="scroll")
 
 
 def _bar(
-    x: int, width: int, year: str, count: int, most: int, search: Optional[Search], chosen: str
+    width: int, year: str, count: int, most: int, search: Optional[Search], chosen: str
 ) -> Markup:
-    middle, bottom = x + width / 2, _TOP + _BAR_HEIGHT
+    middle, bottom = width / 2, _TOP + _BAR_HEIGHT
     name = element("text", year, x=middle, y=bottom + 15, class_="year")
     if not count:
         return element("g", name, class_="none", aria_hidden="true")
@@ -71,8 +68,8 @@ def _bar(
     words = f"{year}: {dates.many(count, 'capture')}"
     drawn = joined(
         element("title", words),
-        element("rect", x=x, y=0, width=width, height=_TOP + _BAR_HEIGHT + _BOTTOM, class_="reach"),
-        element("rect", x=x + 4, y=bottom - height, width=width - 8, height=height, class_="bar"),
+        element("rect", x=0, y=0, width=width, height=bottom + _BOTTOM, class_="reach"),
+        element("rect", x=4, y=bottom - height, width=width - 8, height=height, class_="bar"),
         element("text", short(count), x=middle, y=bottom - height - 4, class_="count"),
         name,
     )

@@ -45,10 +45,10 @@ _BLOCKS = frozenset(
     "figure footer form h1 h2 h3 h4 h5 h6 header hgroup hr legend li main menu nav ol option p pre "
     "section summary table td th title tr ul".split()
 )
-_META_CHARSET = re.compile(
+META_CHARSET = re.compile(
     rb"""<meta[^>]{0,200}?charset\s*=\s*["']?([A-Za-z0-9._:-]{1,40})""", re.IGNORECASE
 )
-_META_SEARCHED = 4096  # bytes in which a page may name its character set
+META_SEARCHED = 4096  # bytes in which a page may name its character set
 _WORDS = re.compile(r"\w+|\s+|[^\w\s]")
 
 Part = tuple[bool, str]  # whether it differs, and a piece of a line
@@ -96,7 +96,7 @@ class _Text(HTMLParser):
 
 def text_of(content: bytes, charset: Optional[str], is_html: bool) -> str:
     """Returns the characters of a page. A byte that can't be decoded becomes U+FFFD."""
-    if charset is None and is_html and (found := _META_CHARSET.search(content[:_META_SEARCHED])):
+    if charset is None and is_html and (found := META_CHARSET.search(content[:META_SEARCHED])):
         charset = found[1].decode("ascii")
     try:
         return content.decode(charset or "utf-8", errors="replace")

@@ -41,18 +41,18 @@ class Counts:
 
 def count(source: Source, search: Search, most: int = MOST) -> Counts:
     """Counts the captures that a search selects, or the first `most` of them."""
-    days: Counter[bytes] = Counter()
-    total, last = 0, b""
+    days: Counter[str] = Counter()
+    total, last = 0, ""
     for timestamps in _timestamps(source, search, most + 1):
         total += len(timestamps)
         if total > most:
             timestamps.pop()
         days.update(each[:8] for each in timestamps)
         last = timestamps[-1] if timestamps else last
-    counts = Counts(total=min(total, most), last=last.decode(), is_whole=total <= most)
+    counts = Counts(total=min(total, most), last=last, is_whole=total <= most)
     for day, captures in days.items():
-        counts.days[day.decode()] += captures
-        counts.years[day[:4].decode()] += captures
+        counts.days[day] += captures
+        counts.years[day[:4]] += captures
     return counts
 
 
@@ -65,6 +65,6 @@ def count_of_url(source: Source, search: Search) -> str:
     return f"{count:,}" if count <= MOST_OF_URL else f"more than {MOST_OF_URL:,}"
 
 
-def _timestamps(source: Source, search: Search, limit: int) -> Iterator[list[bytes]]:
+def _timestamps(source: Source, search: Search, limit: int) -> Iterator[list[str]]:
     """Yields the timestamps of the first captures, some of them each time."""
-    return source.lines(search.query(fl="timestamp", limit=str(limit)))
+    return source.timestamps(search.query(), limit)

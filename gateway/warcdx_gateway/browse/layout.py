@@ -1,5 +1,5 @@
 """The frame of a page: its heads, the form of the search, and what all pages have."""
-from collections.abc import Mapping
+from collections.abc import Mapping, Sequence
 from typing import Optional
 
 from werkzeug.wrappers import Response
@@ -20,11 +20,12 @@ def collection_page(
     status: int = 200,
 ) -> Response:
     """Returns a page of a collection: its name, the form of the search, and what is on it."""
+    all_of_them = element("li", element("a", "Collections", href=Link(UP + "browse")))
     path = element(
         "nav",
         element(
             "ol",
-            element("li", element("a", "Collections", href=Link(UP + "browse"))),
+            None if collection.is_alone else all_of_them,
             element("li", element("a", collection.title, href=Link("./"))),
         ),
         aria_label="Where you are",
@@ -36,12 +37,12 @@ def collection_page(
     return responses.page(_document(shown, body, UP), status)
 
 
-def list_page(collections: Mapping[str, Collection]) -> Response:
+def list_page(collections: Sequence[Collection]) -> Response:
     """Returns the page with all collections."""
-    entries = (_entry(collection) for collection in collections.values())
+    entries = map(_entry, collections)
     content = joined(
         element("h1", "Web archives"),
-        element("p", "Each collection can be searched for an address or a host."),
+        element("p", "Each collection can be searched for a URL or a host."),
         element("ul", entries, class_="collections")
         if collections
         else element("p", "There is no collection."),
@@ -79,7 +80,7 @@ def search_form(search: Optional[Search]) -> Markup:
     return element(
         "form",
         _labelled(
-            "Address or host",
+            "URL or host",
             element(
                 "input",
                 type="text",
@@ -96,28 +97,42 @@ def search_form(search: Optional[Search]) -> Markup:
             "url",
             "wide",
         ),
-        _labelled("Match", element("select", options, name="match", id="match"), "match"),
-        _labelled("From", _time_input("from", search.first), "from"),
-        _labelled("To", _time_input("to", search.last), "to"),
         element("button", "Search", type="submit"),
         element(
-            "p",
-            "An address such as ",
-            element("code", "example.com/page"),
-            ", all below it ",
-            element("code", "example.com/page*"),
-            ", or a host with all hosts below it ",
-            element("code", "*.example.com"),
-            ". Times are a year, a month or a day: ",
-            element("code", "2016-03"),
-            ".",
-            id="url-help",
-            class_="help",
+            "details",
+            element("summary", "Match and times"),
+            element(
+                "div",
+                _labelled("Match", element("select", options, name="match", id="match"), "match"),
+                _labelled("From", _time_input("from", search.first), "from"),
+                _labelled("To", _time_input("to", search.last), "to"),
+                class_="fields-in-a-row",
+            ),
+            _help(),
+            open=bool(search.match or search.first or search.last),
         ),
         action=Link("search"),
         method="get",
         role="search",
         class_="search",
+    )
+
+
+def _help() -> Markup:
+    """Returns what can be typed."""
+    return element(
+        "p",
+        "A URL such as ",
+        element("code", "example.com/page"),
+        ", all below it ",
+        element("code", "example.com/page*"),
+        ", or a host with all hosts below it ",
+        element("code", "*.example.com"),
+        ". Times are a year, a month or a day: ",
+        element("code", "2016-03"),
+        ".",
+        id="url-help",
+        class_="help",
     )
 
 

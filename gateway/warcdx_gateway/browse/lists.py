@@ -1,13 +1,14 @@
 """Lists of captures and of addresses, a page at a time."""
+import functools
 from dataclasses import dataclass, replace
 from typing import Optional
 
 from warcdx import Capture
 
-from ..answers import REVISIT
+from ..selection import REVISIT
 from ..application import Gateway
 from ..collection import Collection
-from ..history import quoted
+from ..history import Ask, quoted
 from . import dates
 from .counting import count_of_url
 from .layout import row, table
@@ -36,13 +37,14 @@ class Part:
 
 def captures(gateway: Gateway, collection: Collection, search: Search, after: str) -> Part:
     """Returns the captures that follow a place, in the order of the index."""
-    return _part(gateway, collection, search.query(resumeKey=after), bool(after))
+    ask = functools.partial(gateway.captures, collection)
+    return _part(ask, search.query(resumeKey=after), bool(after))
 
 
 def addresses(gateway: Gateway, collection: Collection, search: Search, after: str) -> Part:
     """Returns the first capture of each URL key that follows a place, and how many each has."""
-    query = search.query(collapse="urlkey", resumeKey=after)
-    part = _part(gateway, collection, query, bool(after))
+    ask = functools.partial(gateway.first_of_keys, collection, after)
+    part = _part(ask, search.query(resumeKey=after), bool(after))
     times = Search("", "exact", search.first, search.last)
     source = gateway.source(collection)
     counts = tuple(
@@ -51,8 +53,8 @@ def addresses(gateway: Gateway, collection: Collection, search: Search, after: s
     return replace(part, counts=counts)
 
 
-def _part(gateway: Gateway, collection: Collection, query: str, is_later: bool) -> Part:
-    found = gateway.captures(collection, query, SIZE + 1)
+def _part(ask: Ask, query: str, is_later: bool) -> Part:
+    found = ask(query, SIZE + 1)
     place = place_of(found[SIZE - 1]) if len(found) > SIZE else ""
     return Part(tuple(found[:SIZE]), place, not is_later)
 
@@ -77,7 +79,7 @@ def captures_section(part: Part, search: Search, words: str) -> Markup:
     if can_compare:
         names["pick"] = "Compare"
     if not search.is_single:
-        names = {"time": "Time", "address": "Address", **names}
+        names = {"time": "Time", "address": "URL", **names}
     before: Optional[str] = None
     rows: list[Child] = []
     for number, capture in enumerate(part.captures):
@@ -171,12 +173,12 @@ def addresses_section(part: Part, search: Search) -> Markup:
     if not part.captures:
         return element(
             "section",
-            element("h2", "Addresses"),
-            element("p", "There are no addresses here."),
+            element("h2", "URLs"),
+            element("p", "There are no URLs here."),
             class_="card",
         )
     names = {
-        "address": "Address",
+        "address": "URL",
         "count": "Captures",
         "time": "First capture",
         "status": "Status",
@@ -196,10 +198,10 @@ def addresses_section(part: Part, search: Search) -> Markup:
         )
         for capture, count in zip(part.captures, part.counts)
     )
-    listed = table("Addresses", names, rows, "addresses")
+    listed = table("URLs", names, rows, "addresses")
     return element(
         "section",
-        element("h2", "Addresses"),
+        element("h2", "URLs"),
         listed,
         _further(part, search, "search"),
         class_="card",

@@ -1,23 +1,25 @@
 """Where records are, as the links to them say it: only what an index names is read."""
+import contextlib
 import functools
 import re
 from collections.abc import Mapping
 from dataclasses import dataclass
 from typing import Optional
 
-from warcdx import Capture, Refused
+from warcdx import Capture, Refused, fetching
+from warcdx.fetching import is_unmodified, url_of_original
 from warcdx.record import Head
 
-from ..answers import REVISIT
+from ..selection import REVISIT
 from ..application import Gateway
 from ..collection import Collection
 from ..history import MOST, Ask, History, before_time, quoted, resumed
+from .dates import timestamp_of
 from .markup import Link, link
 from .searching import NotShown
 
 _OFFSET = re.compile("[0-9]{1,19}")
 _TIMESTAMP = re.compile("[0-9]{14}")
-_SHA1 = re.compile("^sha1:", re.IGNORECASE)
 
 
 @dataclass(frozen=True)
@@ -100,31 +102,22 @@ def capture_at(ask: Ask, place: Capture) -> Optional[Capture]:
 def original_of(ask: Ask, head: Head) -> Optional[Capture]:
     """Returns the capture that a revisit points to by its head, or None if no index has it.
 
-    It is one of the URL, with the digest and the time if the revisit has them, or else with the
-    digest alone.
+    One that was not modified may say nothing of it. Then it is the one before the revisit.
     """
-    digest = _SHA1.sub("", head.field("WARC-Payload-Digest") or "", count=1)
-    url = without_brackets(head.field("WARC-Refers-To-Target-URI") or "")
-    url = url or without_brackets(head.field("WARC-Target-URI") or "")
-    if not url:
-        return None
-    digits = re.sub("[^0-9]", "", head.field("WARC-Refers-To-Date") or "")[:14]
-    times = f"&from={digits}&to={digits}" if len(digits) == 14 else ""
-    same = f"&is=digest:{quoted(digest)}" if digest else ""
-    target = f"url={quoted(url)}&matchType=exact&isnot=mimetype:{REVISIT}"
-    for conditions in dict.fromkeys(filter(None, (times and times + same, same))):
-        try:
-            found = ask(target + conditions, 1)
-        except Refused:
-            return None
-        if found:
-            return found[0]
+    found = fetching.original_of(lambda query: ask(query, 1), head)
+    url = url_of_original(head)
+    if found is not None or not url or not is_unmodified(head):
+        return found
+    with contextlib.suppress(Refused):
+        return before(ask, url, head)
     return None
 
 
-def without_brackets(url: str) -> str:
-    """Returns a URL without the brackets that wget writes around it."""
-    return url[1:-1] if url.startswith("<") and url.endswith(">") else url
+def before(ask: Ask, url: str, head: Head) -> Optional[Capture]:
+    """Returns the last capture before a record that has a payload of a URL, or None."""
+    timestamp = timestamp_of(head.field("WARC-Date") or "")
+    history = History(ask, url=url).without("mimetype", REVISIT).without("statuscode", "304")
+    return history.before(timestamp) if timestamp else None
 
 
 def text_of(capture: Capture) -> str:

@@ -1,30 +1,57 @@
 """Captures as they were archived: their payload, status and fields, in the sandbox of payloads."""
 import contextlib
+import hashlib
 import re
 from collections.abc import Callable, Iterator
+from dataclasses import dataclass
+from typing import Optional
 
+from werkzeug.exceptions import RequestedRangeNotSatisfiable
+from werkzeug.http import is_resource_modified
 from werkzeug.wrappers import Request, Response
 
 from warcdx import Capture
 from warcdx.codings import FOREIGN
-from warcdx.record import RecordStream
+from warcdx.fetching import is_unmodified
+from warcdx.http_messages import HttpHead
+from warcdx.record import RecordStream, without_brackets
 
 from ..collection import Collection
 from ..history import Ask
+from ..work import Work
 from . import reading, responses
-from .places import original_of
+from .places import before, original_of
 from .searching import NotShown
 
 MOST_FIELDS = 64  # of an archived head
 MOST_HEAD = 6000  # bytes of the fields that are passed on
 MOST_HELD = 1 << 20  # bytes of a payload that are read before its answer begins
-SENT = range(200, 600)  # the statuses that are passed on
+MOST_LINE = 200  # characters of a status line that is passed on
+NOT_MODIFIED = 304
+MOST_BEFORE = 10  # captures without a payload that are passed for one that has it
+SENT = range(200, 600)  # the statuses that are passed on, but for those that act on clients
+ACTING = frozenset((205, 206, NOT_MODIFIED, 401, 407, 408, 416, 421, 425, 426, 429, 431, 499, 511))
 ARCHIVED = "X-Archive-Orig-"
 _TOKEN = re.compile(r"[!#$%&'*+.^_`|~0-9A-Za-z-]{1,100}")
 
 
+@dataclass(frozen=True)
+class Window:
+    """How a browser shows a capture in a window of its own: a page of HTML at another URL.
+
+    `is_there` is whether this is that URL. `page` gives the page with what is put into it.
+    """
+
+    url: str
+    is_there: bool
+    page: Callable[[reading.Read], bytes]
+
+
 class RawCapture:
-    """The answer to a request for a capture. What it has to close goes from `stack` to it."""
+    """The answer to a request for a capture. What it has to close goes from `stack` to it.
+
+    With a `window`, a page of HTML is shown there, as far as these pages show one. XML is text then.
+    """
 
     def __init__(
         self,
@@ -33,7 +60,9 @@ class RawCapture:
         ask: Ask,
         capture: Capture,
         stack: contextlib.ExitStack,
+        window: Optional[Window],
     ) -> None:
+        self._window = window
         self._request = request
         self._collection = collection
         self._ask = ask
@@ -52,34 +81,132 @@ class RawCapture:
 
     def _response(self, fields: dict[str, str], location_of: Callable[[str], str]) -> Response:
         record = self._stack.enter_context(reading.opened(self._collection, self._capture))
-        head = record.http
         kind = "" if record.head.is_http else record.head.field("Content-Type") or ""
-        if record.head.kind == "revisit":
-            original = original_of(self._ask, record.head)
-            if original is None:
-                why = "No index has a capture with its digest."
-                raise NotShown("The original of the revisit isn't here.", why, 404)
-            record = self._stack.enter_context(reading.opened(self._collection, original))
-            head = head or record.http
-        what, coding = coded(self._request, record)
+        record, head = self._with_payload(record)
+        window, media_type = self._window, media_type_of(head, kind)
+        if window is not None and media_type in reading.HTML:
+            if not window.is_there:
+                return responses.redirect(window.url, 302)
+            if head is None or not (300 <= (head.status or 200) < 400 and head.field("Location")):
+                return self._shown(window, record, head, fields)
+        what, coding = coded(self._request, record, self._collection.work)
         status, headers = 200, {**responses.payload_headers(), **fields, **coding}
         if head is not None:
             kind = head.field("Content-Type") or ""
-            status = head.status or 200
-            status = status if status in SENT else 200
+            status = sent_status(head.status or 200)
             target = head.field("Location")
             if 300 <= status < 400 and target is not None and (where := location_of(target)):
                 headers["Location"] = where
-        pieces = reading.Download(self._stack, record, what)
+        size = record.stored_length if what == "stored" else None
+        pieces = reading.Download(self._stack, record, what, self._collection.work)
         held = pieces.held(MOST_HELD)
         response = Response(pieces if held is None else held, status, headers)
-        response.headers["Content-Type"] = visible(kind) or "application/octet-stream"
+        kind = visible(kind) or "application/octet-stream"
+        is_xml = window is not None and media_type.endswith(("/xml", "+xml"))
+        response.headers["Content-Type"] = "text/plain; charset=utf-8" if is_xml else kind
+        if head is not None:
+            response.headers.add(ARCHIVED + "Status-Line", visible(head.line)[:MOST_LINE])
         for name, value in archived_fields(head.fields if head else ()):
             response.headers.add(ARCHIVED + name, value)
+        response.set_etag(tag_of(self._capture, what))
+        return conditional(response, self._request, size if held is None else len(held))
+
+    def _shown(
+        self, window: Window, record: RecordStream, head: Optional[HttpHead], fields: dict[str, str]
+    ) -> Response:
+        """Returns a page with its images and style sheets."""
+        payload = reading.shown_payload(record, self._collection.work)
+        if payload.fault and not payload.content:
+            raise NotShown("The payload can't be unpacked.", payload.fault, 422)
+        page = window.page(reading.Read(record.head, head, record.length, payload))
+        self._stack.close()
+        status = sent_status(head.status or 200) if head is not None else 200
+        headers = {**responses.payload_headers(), **fields, "Vary": "Sec-Fetch-Dest"}
+        return Response(page, status, headers, content_type=reading.HTML_SHOWN)
+
+    def _with_payload(self, record: RecordStream) -> tuple[RecordStream, Optional[HttpHead]]:
+        """Returns the record with the payload, and the head that is of it.
+
+        A revisit has its own head if it has one, and the payload of its original. What a server has
+        said not to be modified is all of the original, also where a crawler has that as a response.
+        """
+        head, found = record.http, record.head
+        url = without_brackets(found.field("WARC-Target-URI") or "")
+        is_answer = head is not None and head.status == NOT_MODIFIED
+        if found.kind == "revisit":
+            original = original_of(self._ask, found)
+        elif is_answer:
+            original = before(self._ask, url, found)
+        else:
+            return record, head
+        is_whole = is_answer or is_unmodified(found) or head is None
+        for _ in range(MOST_BEFORE):
+            if original is None:
+                break
+            record = self._stack.enter_context(reading.opened(self._collection, original))
+            if record.http is None or record.http.status != NOT_MODIFIED:
+                return record, record.http if is_whole else head
+            # Its index line doesn't say so, as where the head isn't quite one.
+            original = before(self._ask, url, record.head)
+        why = "No index has a capture with its payload."
+        raise NotShown("The original of the revisit isn't here.", why, 404)
+
+
+def media_type_of(head: Optional[HttpHead], kind: str) -> str:
+    """Returns the media type of a payload in lower case, without parameters."""
+    found = kind if head is None else head.field("Content-Type") or ""
+    return found.partition(";")[0].strip().lower()
+
+
+def sent_status(status: int) -> int:
+    """Returns the status with which a capture is sent: one of those that act on no client."""
+    if status in ACTING or status not in SENT:
+        return status // 100 * 100 if 400 <= status < 600 else 200
+    return status
+
+
+def tag_of(capture: Capture, what: str) -> str:
+    """Returns the tag of a capture's payload, with its codings or without them."""
+    return hashlib.sha256(f"{what} {capture!r}".encode(errors="replace")).hexdigest()[:20]
+
+
+def one_range(request: Request, size: int) -> str:
+    """Returns the range of a request in `size` bytes, or no text if there isn't one range."""
+    found = request.range
+    if found is None or found.units != "bytes" or len(found.ranges) != 1:
+        return ""
+    ((first, end),) = found.ranges
+    first = max(first, -size)  # a longer end is all of it
+    return f"bytes={first}{'' if end is None and first < 0 else '-' if end is None else f'-{end - 1}'}"
+
+
+def conditional(response: Response, request: Request, size: Optional[int]) -> Response:
+    """Returns an answer by the conditions of its request, and if it has `size` bytes by its range.
+
+    RFC 9110, sections 13 and 14: only what has status 200 has them.
+    """
+    if response.status_code != 200:
         return response
+    if size is None:
+        tag, _ = response.get_etag()
+        if is_resource_modified(request.environ, tag):
+            return response
+        response.close()
+        return Response(status=304, headers={"ETag": response.headers["ETag"]})
+    response.content_length = size
+    environ = {**request.environ}
+    if "HTTP_RANGE" in environ and (asked := one_range(request, size)):
+        environ["HTTP_RANGE"] = asked
+    else:
+        environ.pop("HTTP_RANGE", None)
+    try:
+        return response.make_conditional(environ, True, size)
+    except RequestedRangeNotSatisfiable as error:
+        response.close()
+        return Response(f"{error.description}\n", 416, {"Content-Range": f"bytes */{size}"})
 
 
-def coded(request: Request, record: RecordStream) -> tuple[str, dict[str, str]]:
+def coded(request: Request, record: RecordStream, work: Work) -> tuple[str, dict[str, str]]:
     """Returns which payload a client gets, by its content codings, and the fields that say so.
 
     The codings stay if the payload has all that its head names, and the client takes them, or one
@@ -92,7 +219,7 @@ def coded(request: Request, record: RecordStream) -> tuple[str, dict[str, str]]:
     accepted = request.accept_encodings
     stays = all(accepted.quality(each.removeprefix("x-")) > 0 for each in names)
     stays = stays or not FOREIGN.keys().isdisjoint(names)
-    if stays and record.has_content_codings(reading.SHOWN):
+    if stays and record.has_content_codings(reading.bounded(reading.SHOWN, work)):
         return "stored", {**varied, "Content-Encoding": ", ".join(names)}
     return "payload", varied
 

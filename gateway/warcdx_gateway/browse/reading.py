@@ -1,18 +1,21 @@
 """Reads records for these pages, with bounds on what is read, unpacked and held."""
 import contextlib
-import pathlib
+import os
 import re
 from collections.abc import Iterator
-from dataclasses import dataclass
+from dataclasses import dataclass, replace
 from typing import Optional
 
 from warcdx import Capture, Error, Fault, ReplyTooLate, Unreadable, faults, open_archive
 from warcdx.codings import Limits
+from warcdx.collection import find_archive
 from warcdx.http_messages import HttpHead
 from warcdx.record import Head, RecordStream
-from warcdx.record_digests import RecordCheck, Verdicts
+from warcdx.record_digests import BlockCheck, Verdicts
 
 from ..collection import Collection
+from ..rules import Action
+from ..work import Work
 from .searching import NotShown
 
 MOST_SHOWN = 4 << 20  # bytes of a payload that are shown
@@ -22,7 +25,8 @@ SILENCE = 10  # seconds for the program to find a record, and to unpack what fol
 SHOWN = Limits(size=64 << 20, seconds=5)
 DOWNLOADED = Limits(size=16 << 30, seconds=3600)
 _CHARSET = re.compile(r"""charset\s*=\s*["']?([A-Za-z0-9._:-]{1,40})""", re.IGNORECASE)
-_HTML = ("text/html", "application/xhtml+xml")
+HTML = ("text/html", "application/xhtml+xml")
+HTML_SHOWN = "text/html; charset=utf-8"  # as `embedding` gives it
 _IMAGES = ("image/png", "image/jpeg", "image/gif", "image/webp")
 _TEXTS = (
     "application/json",
@@ -31,7 +35,7 @@ _TEXTS = (
     "application/xml",
     "application/warc-fields",
 )
-_CHARSETS = frozenset(
+CHARSETS = frozenset(
     "utf-8 us-ascii iso-8859-1 iso-8859-2 iso-8859-3 iso-8859-4 iso-8859-5 iso-8859-6 iso-8859-7 "
     "iso-8859-8 iso-8859-9 iso-8859-10 iso-8859-13 iso-8859-14 iso-8859-15 iso-8859-16 "
     "windows-1250 windows-1251 windows-1252 windows-1253 windows-1254 windows-1255 windows-1256 "
@@ -77,7 +81,7 @@ class Read:
         """The character set that the type names, if it is a usual one, in lower case."""
         found = _CHARSET.search(self.content_type)
         name = found[1].lower() if found else ""
-        return name if name in _CHARSETS else None
+        return name if name in CHARSETS else None
 
     @property
     def shown_type(self) -> Optional[str]:
@@ -85,8 +89,8 @@ class Read:
         if self.kind in _IMAGES:
             return self.kind if self.payload.is_whole else None
         charset = f"; charset={self.charset}" if self.charset else ""
-        if self.kind in _HTML:
-            return f"text/html{charset}"
+        if self.kind in HTML:
+            return HTML_SHOWN
         if self.is_text:
             return f"text/plain{charset or '; charset=utf-8'}"
         return None
@@ -101,14 +105,17 @@ class Read:
 
     @property
     def is_html(self) -> bool:
-        return self.kind in _HTML
+        return self.kind in HTML
 
 
 @contextlib.contextmanager
 def opened(collection: Collection, capture: Capture) -> Iterator[RecordStream]:
     """Opens the record of a capture, by its offset and length. Raises NotShown."""
-    path = archive_of(collection, capture.filename)
-    if path is None:
+    settings, work = collection.settings, collection.work
+    path = find_archive(settings.archives, capture.filename, settings.links)
+    if collection.rules.action(capture.urlkey, capture.timestamp, capture.digest) > Action.SHOW:
+        raise NotShown("This capture can't be shown.", "The archive doesn't give it to readers.", 451)
+    if path is None or not os.path.isfile(path):
         raise NotShown(
             f"The archive “{capture.filename}” isn't here.",
             "The collection has no archive of this name in its folders, "
@@ -116,8 +123,8 @@ def opened(collection: Collection, capture: Capture) -> Iterator[RecordStream]:
             404,
         )
     try:
-        archive = open_archive(path, program=collection.program)
-        with archive.stream(capture.offset, length=capture.length, seconds=SILENCE) as record:
+        archive, seconds = open_archive(path, program=collection.program), work.seconds(SILENCE)
+        with archive.stream(capture.offset, length=capture.length, seconds=seconds) as record:
             yield record
     except faults.NoRecord:
         raise NotShown(
@@ -126,20 +133,8 @@ def opened(collection: Collection, capture: Capture) -> Iterator[RecordStream]:
             404,
         ) from None
     except (Fault, ReplyTooLate, Unreadable) as error:
+        work.go_on()
         raise NotShown("The record can't be read.", reason_of(error), 502) from error
-
-
-def archive_of(collection: Collection, filename: str) -> Optional[pathlib.Path]:
-    """Returns the file of this name in the folders, or None. It is never outside of them."""
-    for folder in collection.settings.archives:
-        root = folder.resolve()
-        try:
-            path = (root / filename).resolve()
-            if path.is_relative_to(root) and path.is_file():
-                return path
-        except (OSError, ValueError):  # a name that is too long, or has a NUL
-            continue
-    return None
 
 
 def reason_of(error: Error) -> str:
@@ -154,17 +149,19 @@ def reason_of(error: Error) -> str:
 def read(collection: Collection, capture: Capture) -> Read:
     """Reads a record, and the first MOST_SHOWN bytes of its payload. Raises NotShown."""
     with opened(collection, capture) as record:
-        return Read(record.head, record.http, record.length, _payload(record))
+        return Read(record.head, record.http, record.length, shown_payload(record, collection.work))
 
 
-def _payload(record: RecordStream) -> Payload:
+def shown_payload(record: RecordStream, work: Work) -> Payload:
     content, fault = bytearray(), ""
     try:
-        for piece in record.payload(SHOWN):
+        for piece in record.payload(bounded(SHOWN, work)):
+            work.go_on()
             content += piece
             if len(content) > MOST_SHOWN:
                 break
     except Unreadable as error:
+        work.go_on()
         fault = reason_of(error)
     is_whole = len(content) <= MOST_SHOWN and not fault
     return Payload(bytes(content[:MOST_SHOWN]), is_whole, fault, record.stored_otherwise)
@@ -172,24 +169,28 @@ def _payload(record: RecordStream) -> Payload:
 
 def verdicts(collection: Collection, capture: Capture) -> Optional[Verdicts]:
     """Returns the verdicts on a record's digests, or None if it is too long. Raises NotShown."""
-    check = RecordCheck()
     with opened(collection, capture) as record:
         if record.length > MOST_VERIFIED:
             return None
-        for piece in record.whole():
-            check.add(memoryview(piece))
-    if not check.is_whole:
-        raise NotShown("The record can't be read.", "The archive ends in it.", 502)
-    return check.verdicts()
+        check = BlockCheck(record.head, record.length)
+        for piece in record.whole_block():
+            collection.work.go_on()
+            check.add(piece)
+        return check.verdicts()
 
 
-def _pieces_of(record: RecordStream, what: str) -> Iterator[bytes]:
+def bounded(limits: Limits, work: Work) -> Limits:
+    """Returns limits that leave no more time than the present request has."""
+    return replace(limits, seconds=work.seconds(limits.seconds or 0))
+
+
+def _pieces_of(record: RecordStream, what: str, work: Work) -> Iterator[bytes]:
     if what == "record":
         yield from record.whole()
     elif what == "payload":
-        yield from record.payload(DOWNLOADED)
+        yield from record.payload(bounded(DOWNLOADED, work))
     else:
-        yield from record.stored_payload(DOWNLOADED)
+        yield from record.stored_payload(bounded(DOWNLOADED, work))
 
 
 class Download:
@@ -199,10 +200,15 @@ class Download:
     iterator, in place of the last piece, if the record isn't whole or its archive is damaged there.
     """
 
-    def __init__(self, stack: contextlib.ExitStack, record: RecordStream, what: str) -> None:
+    def __init__(
+        self, stack: contextlib.ExitStack, record: RecordStream, what: str, work: Work
+    ) -> None:
         self.head = record.head
         self.size = record.size if what == "record" else None
-        self._pieces = _pieces_of(record, what)
+        if what == "payload" and not (record.http and record.http.content_codings):
+            self.size = record.stored_length
+        self._work = work
+        self._pieces = _pieces_of(record, what, work)
         self._ahead = self._next()
         self._stack = stack.pop_all()
 
@@ -210,6 +216,7 @@ class Download:
         """Returns the pieces if they have at most `most` bytes. If not, they stay to be read."""
         held = bytearray()
         while len(held) <= most:
+            self._work.expect_slot(len(held))
             piece = next(self, b"")
             if not piece:
                 return bytes(held)
@@ -236,8 +243,10 @@ class Download:
             self._stack.close()
 
     def _next(self) -> bytes:
+        self._work.go_on()
         try:
             return next(self._pieces, b"")
         except Unreadable as error:
+            self._work.go_on()
             why = reason_of(error)
             raise NotShown("The payload can't be unpacked.", why, 422) from error

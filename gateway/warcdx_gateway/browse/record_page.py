@@ -6,7 +6,7 @@ from typing import Optional
 from werkzeug.wrappers import Response
 
 from warcdx import Capture
-from warcdx.record import Head
+from warcdx.record import Head, without_brackets
 from warcdx.record_digests import Verdict, Verdicts
 
 from ..application import Gateway
@@ -15,7 +15,7 @@ from ..history import History
 from . import dates, reading
 from .layout import collection_page, row, table
 from .markup import Child, Markup, cut, element, followed, joined, link
-from .places import original_of, record_link, without_brackets
+from .places import original_of, record_link
 from .reading import MOST_SHOWN, MOST_VERIFIED, Read
 from .searching import Search
 
@@ -58,12 +58,12 @@ def record_page(gateway: Gateway, collection: Collection, capture: Capture) -> R
     return collection_page(
         collection,
         title,
-        element("hgroup", element("p", f"{cut(head.kind, 40)} record"), heading),
+        element("hgroup", element("p", _kind(head)), heading),
         _around(*around),
-        _facts(record, capture),
-        element("section", element("h2", "Digests"), _verdicts(verdicts), class_="card"),
         _original(original) if is_revisit else None,
         _payload(record, capture),
+        _facts(record, capture),
+        element("section", element("h2", "Digests"), _verdicts(verdicts), class_="card"),
         _fields("WARC headers", head.fields),
         _http(record),
         search=search,
@@ -90,8 +90,16 @@ def _around(before: Optional[Capture], after: Optional[Capture]) -> Child:
 
 
 def _title(head: Head) -> str:
+    return f"Record{_when(head)}"
+
+
+def _kind(head: Head) -> str:
+    return f"{cut(head.kind, 40)} record{_when(head)}"
+
+
+def _when(head: Head) -> str:
     timestamp = dates.timestamp_of(head.field("WARC-Date") or "")
-    return f"Record of {dates.in_words(timestamp)}" if timestamp else "Record"
+    return f" of {dates.in_words(timestamp)}" if timestamp else ""
 
 
 def target_of(head: Head) -> str:
@@ -109,7 +117,7 @@ def _facts(record: Read, capture: Capture) -> Markup:
         ("Time", element("time", when, datetime=machine_time)),
         ("Archive", joined(archive, f", at byte {capture.offset:,}")),
         ("Block", dates.many(record.length, "byte")),
-        ("Other captures", followed("All captures of this address", history)),
+        ("Other captures", followed("All captures of this URL", history)),
     ]
     listed = (element("div", element("dt", name), element("dd", value)) for name, value in facts)
     return element("dl", listed, class_="facts")

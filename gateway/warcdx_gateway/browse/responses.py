@@ -7,6 +7,7 @@ from werkzeug.wrappers import Response
 
 COMMON = {
     "Referrer-Policy": "no-referrer",
+    "X-DNS-Prefetch-Control": "off",
     "Cross-Origin-Resource-Policy": "same-origin",
     "Cross-Origin-Opener-Policy": "same-origin",
 }

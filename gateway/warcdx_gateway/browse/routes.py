@@ -16,13 +16,15 @@ from ..refusal import Refusal
 from . import dates, embedding, layout, reading, responses
 from .compare_page import compare_page
 from .places import Place
+from .raw_captures import conditional, tag_of
 from .reading import Download
 from .record_page import record_page, target_of
 from .search_page import captures_page, search_page
 from .searching import NotShown, Search
 from .start_page import start_page
 
-PARTS = {"style.css": "text/css; charset=utf-8", "icon.svg": "image/svg+xml"}
+ICON = "icon.svg"
+PARTS = {"style.css": "text/css; charset=utf-8", ICON: "image/svg+xml"}
 WINDOW = "document"  # the value of Sec-Fetch-Dest for a page that gets a window of its own
 
 Page = Callable[[Gateway, Collection, Request], Response]
@@ -39,6 +41,8 @@ def rules() -> list[Rule]:
     for name, kind in PARTS.items():
         text = pathlib.Path(__file__).with_name(name).read_bytes()
         found.append(rule(f"/browse/{name}", functools.partial(_part, text, kind)))
+        if name == ICON:  # browsers ask there if what they show isn't one of these pages
+            found.append(rule("/favicon.ico", functools.partial(_part, text, kind)))
     for name, page in PAGES.items():
         found.append(rule(f"/<collection>/browse/{name}", functools.partial(_answer, page)))
     return found
@@ -47,16 +51,19 @@ def rules() -> list[Rule]:
 def _root(gateway: Gateway, request: Request) -> Response:
     """Lists the collections, for a browser as a page and else as text."""
     if request.accept_mimetypes.best_match(("text/plain", "text/html")) == "text/html":
-        response = layout.list_page(gateway.collections)
+        response = _collections(gateway, request)
     else:
-        lines = (f"/{each.name}/cdx\t{each.title}\n" for each in gateway.collections.values())
+        lines = (f"/{each.name}/cdx\t{each.title}\n" for each in gateway.listed)
         response = Response("".join(lines), content_type="text/plain; charset=utf-8")
     response.vary.add("Accept")
     return response
 
 
 def _collections(gateway: Gateway, request: Request) -> Response:
-    return layout.list_page(gateway.collections)
+    """Lists the collections. One alone is shown itself."""
+    if gateway.main.is_alone:
+        return responses.redirect(f"{gateway.main.name}/browse/")
+    return layout.list_page(gateway.listed)
 
 
 def _redirect(path: str, gateway: Gateway, request: Request, collection: str = "") -> Response:
@@ -93,7 +100,7 @@ def _not_shown(error: Exception, search: Optional[Search]) -> NotShown:
     if isinstance(error, (ReplyTooLong, MemoryError)):
         return NotShown("The captures can't be shown.", "The lines of the index are too long.", 502)
     if isinstance(error, ReplyTooLate) or isinstance(error, Refusal) and error.name == "TooSlow":
-        why = "Search for a shorter time, or for fewer addresses."
+        why = "Search for a shorter time, or for fewer URLs."
         return NotShown("The search takes too long.", why, 503)
     return NotShown("The collection can't be read now.", "Try again in a minute.", 503)
 
@@ -104,29 +111,26 @@ def start(gateway: Gateway, collection: Collection, request: Request) -> Respons
 
 def search_of(gateway: Gateway, collection: Collection, request: Request) -> Response:
     query = request.args
-    with gateway.slot():
-        return search_page(
-            gateway, collection, Search.of(query), query.get("year", ""), query.get("after", "")
-        )
+    return search_page(
+        gateway, collection, Search.of(query), query.get("year", ""), query.get("after", "")
+    )
 
 
 def captures_of(gateway: Gateway, collection: Collection, request: Request) -> Response:
     query = request.args
-    with gateway.slot():
-        return captures_page(gateway, collection, Search.of(query), query.get("after", ""))
+    return captures_page(gateway, collection, Search.of(query), query.get("after", ""))
 
 
 def compare(gateway: Gateway, collection: Collection, request: Request) -> Response:
     places = [Place.of_text(request.args.get(name, "")) for name in ("first", "second")]
-    with gateway.slot():
-        captures = [place.capture(gateway, collection) for place in places]
-        return compare_page(gateway, collection, captures)
+    gateway.work.expect_slot()
+    captures = [place.capture(gateway, collection) for place in places]
+    return compare_page(gateway, collection, captures)
 
 
 def record(gateway: Gateway, collection: Collection, request: Request) -> Response:
     capture = Place.of(request.args).capture(gateway, collection)
-    with gateway.slot():
-        return record_page(gateway, collection, capture)
+    return record_page(gateway, collection, capture)
 
 
 def payload(gateway: Gateway, collection: Collection, request: Request) -> Response:
@@ -137,15 +141,14 @@ def payload(gateway: Gateway, collection: Collection, request: Request) -> Respo
     if request.headers.get("Sec-Fetch-Dest") == WINDOW:
         return responses.redirect(f"record?{request.query_string.decode('latin-1')}")
     capture = Place.of(request.args).capture(gateway, collection)
-    with gateway.slot():
-        record = reading.read(collection, capture)
-        kind = record.shown_type
-        if kind is None:
-            why = "Its type isn't one that these pages show. It can be saved."
-            raise NotShown("The payload isn't shown.", why, 415)
-        content = record.payload.content
-        if record.is_html:
-            content = embedding.embedded(gateway, collection, capture, record)
+    record = reading.read(collection, capture)
+    kind = record.shown_type
+    if kind is None:
+        why = "Its type isn't one that these pages show. It can be saved."
+        raise NotShown("The payload isn't shown.", why, 415)
+    content = record.payload.content
+    if record.is_html:
+        content = embedding.embedded(gateway, collection, capture, record)
     return Response(content, 200, responses.payload_headers(), content_type=kind)
 
 
@@ -156,13 +159,12 @@ def download(gateway: Gateway, collection: Collection, request: Request) -> Resp
         raise NotShown("The download was refused.", "A record or its payload can be saved.")
     capture = place.capture(gateway, collection)
     with contextlib.ExitStack() as stack:
-        stack.enter_context(gateway.slot())
-        opened = Download(stack, stack.enter_context(reading.opened(collection, capture)), what)
+        record = stack.enter_context(reading.opened(collection, capture))
+        opened = Download(stack, record, what, gateway.work)
     headers = responses.attachment_headers(_file_name(opened, place, what))
     response = Response(opened, 200, headers, content_type="application/octet-stream")
-    if opened.size is not None:
-        response.content_length = opened.size
-    return response
+    response.set_etag(tag_of(capture, what))
+    return conditional(response, request, opened.size)
 
 
 def _file_name(download: Download, place: Place, what: str) -> str:

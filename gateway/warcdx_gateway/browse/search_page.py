@@ -97,12 +97,12 @@ def title_of(search: Search) -> str:
 
 def heading(search: Search) -> Markup:
     """Returns the head of a page, with what is searched for."""
-    domain, prefix = "Host and all hosts below it", "Addresses that begin with"
+    domain, prefix = "Host and all hosts below it", "URLs that begin with"
     what = {"host": "Host", "domain": domain, "prefix": prefix}.get(
         search.match, domain if search.typed.startswith("*.") else prefix
     )
     if search.is_single:
-        what = "Address"
+        what = "URL"
     return element("hgroup", element("p", what), element("h1", element("bdi", search.shown)))
 
 
@@ -124,7 +124,7 @@ def caption(counts: Counts, search: Search) -> Markup:
     order = (
         f"up to {dates.in_words(counts.last)}"
         if search.is_single
-        else "in the order of their addresses"
+        else "in the order of their URL keys"
     )
     return element(
         "strong",
@@ -141,7 +141,7 @@ def nothing(search: Search) -> Markup:
         )
     if search.is_single and search.typed:
         for match, words in (
-            ("prefix", "Search for addresses that begin with it"),
+            ("prefix", "Search for URLs that begin with it"),
             ("host", "Search the whole host"),
         ):
             hints.append(

@@ -10,9 +10,9 @@ from .markup import Link, link
 
 MATCHES = {
     "": "as it is typed",
-    "exact": "this address only",
-    "prefix": "addresses that begin with it",
-    "host": "all addresses of the host",
+    "exact": "this URL only",
+    "prefix": "URLs that begin with it",
+    "host": "all URLs of the host",
     "domain": "the host and all hosts below it",
 }
 _DIGITS = re.compile("[0-9]{1,14}")
@@ -40,8 +40,8 @@ REASONS = {
     "or 2016-03-01.",
     "BadResume": "The place at which the list was to continue isn't one.",
     "NoUrl": "Nothing was typed.",
-    "BadUrl": "It isn't an address that the URL Standard accepts. All addresses of a host are "
-    "found only for web addresses, which begin with http:// or https://.",
+    "BadUrl": "It isn't a URL that the URL Standard accepts. All URLs of a host are "
+    "found only for web URLs, which begin with http:// or https://.",
 }
 
 

@@ -1,5 +1,4 @@
 """The start page of a collection: what it holds."""
-import contextlib
 import datetime
 import json
 import re
@@ -22,7 +21,7 @@ from .markup import Child, cut, element, followed, link
 MOST_ROWS = 20  # of a table
 MOST_DAMAGED = 20
 MOST_SUMMARY = 16 << 20  # bytes
-SUMMARY = ".summary.json"  # what is added to the name of an index
+SUMMARY = "current/summary.json"  # in the folder of an index, which has its name and ".d" if it is a file
 _MOST_NAME = 200  # characters of a value
 _YEAR = re.compile("[0-9]{4}")
 # With the front of a key before it, the place after all keys that begin so.
@@ -30,23 +29,23 @@ _AFTER = "\U0010ffff 00000000000000 - 0"
 
 
 def start_page(gateway: Gateway, collection: Collection) -> Response:
-    summary = summary_of(collection)
+    summary = None if collection.rules else summary_of(collection)
     content: list[Child] = [
         element("h1", collection.title),
-        element("p", "Search for an address or a host to see when it was captured."),
+        element("p", "Search for a URL or a host to see when it was captured."),
     ]
     if summary is not None:
         content += _summary(summary)
     else:
         content += _some_hosts(some_hosts(gateway, collection))
-        content.append(_files(collection))
+        content.append(None if collection.rules else _files(collection))
     return collection_page(collection, collection.title, *content)
 
 
 def summary_of(collection: Collection) -> Optional[dict[str, Any]]:
-    """Returns what the file beside the first index says of the collection, if there is one."""
+    """Returns what the summary of the first index says of the collection, if there is one."""
     first = collection.settings.indexes[0]
-    path = first.with_name(first.name + SUMMARY)
+    path = (first if first.is_dir() else first.with_name(f"{first.name}.d")) / SUMMARY
     try:
         if path.stat().st_size > MOST_SUMMARY:
             return None
@@ -177,10 +176,7 @@ def _some_hosts(hosts: list[str]) -> list[Child]:
 
 def _files(collection: Collection) -> Child:
     """Returns how many indexes there are, their size, and when they were changed."""
-    sizes = []
-    for path in collection.settings.indexes:
-        with contextlib.suppress(OSError):
-            sizes.append(path.stat().st_size)
+    sizes = [each.size for each in collection.generation.stamp]
     changed = datetime.datetime.fromtimestamp(collection.modified, datetime.timezone.utc)
     words = dates.many(len(sizes), "index", "indexes")
     day = dates.day_in_words(changed.date())

@@ -1,0 +1,278 @@
+"""What may not be shown: rules of a file, which are applied to each row and each record."""
+import contextlib
+import datetime
+import enum
+import functools
+import hashlib
+import json
+import os
+import pathlib
+import re
+import signal
+import tomllib
+from collections.abc import Collection as Container
+from collections.abc import Iterable, Iterator, Sequence
+from typing import Any, NamedTuple, Optional
+
+from warcdx import Error
+from warcdx.url_keys import host_of, keys_of
+
+from .refusal import say
+from .settings import BadSettings
+
+MOST = 32 << 20  # bytes of the rules as the workers get them
+KEY, STAMP, DIGEST = 0, 1, 5  # the places of these fields in a row of all fields
+ACTIONS = {"metadata": 1, "exclude": 2}
+TARGETS = ("url", "prefix", "host", "domain", "key")
+TEXTS = ("collection", "from", "to", "digest", *TARGETS)
+WEB = ("http://", "https://")
+_SCHEME = re.compile(r"[A-Za-z][A-Za-z0-9+.-]*:")
+_STAMP = re.compile("[0-9]{1,14}")
+_DIGEST = re.compile("(?:sha1:)?([!-~]+)", re.IGNORECASE)
+
+
+class Action(enum.IntEnum):
+    """What a capture may be: shown, named without its record, or not even named."""
+
+    SHOW = 0
+    METADATA = ACTIONS["metadata"]
+    EXCLUDE = ACTIONS["exclude"]
+
+
+class Rule(NamedTuple):
+    """A rule. All that it names has to hold; an empty text or 0 names nothing.
+
+    `keys` are URL keys, or with `is_front` the fronts of them. `first` and `last` are the first
+    digits of timestamps, and `embargo` is the days for which captures aren't shown.
+    """
+
+    action: int
+    collection: str = ""
+    keys: Sequence[str] = ()
+    is_front: bool = False
+    first: str = ""
+    last: str = ""
+    embargo: int = 0
+    digest: str = ""
+
+    def holds(self, timestamp: str, digest: str, today: datetime.date) -> bool:
+        """Returns whether it is for a capture of one of its keys."""
+        if self.digest and digest != self.digest:
+            return False
+        if self.first and timestamp[: len(self.first)] < self.first:
+            return False
+        if self.last and timestamp[: len(self.last)] > self.last:
+            return False
+        return not self.embargo or timestamp[:8] > day_before(today, self.embargo)
+
+
+class Rules:
+    """The rules of one collection. `tag` changes with what they show."""
+
+    def __init__(self, rules: Iterable[Rule] = ()) -> None:
+        self._exact: dict[str, list[Rule]] = {}
+        self._fronts: dict[str, list[Rule]] = {}
+        self._digests: dict[str, list[Rule]] = {}
+        self._others: list[Rule] = []
+        self._all = list(rules)
+        for rule in self._all:
+            keyed = self._fronts if rule.is_front else self._exact
+            for key in rule.keys:
+                keyed.setdefault(key, []).append(rule)
+            if not rule.keys and rule.digest:
+                self._digests.setdefault(rule.digest, []).append(rule)
+            elif not rule.keys:
+                self._others.append(rule)
+        self._lengths = sorted(set(map(len, self._fronts)))
+        self._of_key = functools.lru_cache(256)(self._find)
+        self._digest = hashlib.sha256(repr(self._all).encode()).hexdigest()[:20]
+        self._has_embargo = any(rule.embargo for rule in self._all)
+
+    def __bool__(self) -> bool:
+        return bool(self._all)
+
+    @property
+    def tag(self) -> str:
+        if not self._all:
+            return ""
+        return self._digest + (today().isoformat() if self._has_embargo else "")
+
+    def action(self, key: str, timestamp: str, digest: str) -> int:
+        """Returns what a capture may be: the strictest of the rules that are for it."""
+        rules = self._of_key(key)
+        if self._digests:
+            rules = [*rules, *self._digests.get(digest, ())]
+        day, found = today(), 0
+        for rule in rules:
+            if rule.action > found and rule.holds(timestamp, digest, day):
+                found = rule.action
+        return found
+
+    def shown(self, rows: list[list[str]], most: Action = Action.METADATA) -> list[list[str]]:
+        """Returns the rows, of all fields of the program, for which nothing more than `most` is ruled."""
+        if not self._all:
+            return rows
+        return [row for row in rows if self.action(row[KEY], row[STAMP], row[DIGEST]) <= most]
+
+    def _find(self, key: str) -> list[Rule]:
+        found = [*self._others, *self._exact.get(key, ())]
+        for length in self._lengths:
+            found += self._fronts.get(key[:length], ()) if length <= len(key) else ()
+        return found
+
+
+ALL_SHOWN = Rules()
+
+
+class RulesFile:
+    """The file of rules, which is read again when it has changed. Without a path there are no rules.
+
+    `text` is the last rules that could be read, as `rules_of` takes them. The constructor raises
+    BadSettings if the file can't be read: nothing is shown that it may close.
+    """
+
+    def __init__(self, path: Optional[pathlib.Path], program: str, collections: Container[str]) -> None:
+        self._path = path
+        self._program = program
+        self._collections = collections
+        self._seen = self._identity()
+        self.text = b"[]" if path is None else self._read(path)
+
+    def look(self) -> None:
+        """Reads the file again if it has changed. One that can't be read changes no rules."""
+        if self._path is None or (found := self._identity()) == self._seen:
+            return
+        self._seen = found
+        try:
+            self.text = self._read(self._path)
+            say(f"{self._path}: the rules were read again")
+        except BadSettings as error:
+            say(f"the old rules stay in use: {error}")
+
+    def _identity(self) -> tuple[int, ...]:
+        if self._path is None:
+            return ()
+        try:
+            found = os.stat(self._path)
+        except OSError as error:
+            return (error.errno or 0,)
+        return found.st_dev, found.st_ino, found.st_size, found.st_mtime_ns, found.st_ctime_ns
+
+    def _read(self, path: pathlib.Path) -> bytes:
+        try:
+            tables = tomllib.loads(path.read_bytes().decode())
+            with _waiting():
+                return text_of(tables, self._program, self._collections)
+        except OSError as error:
+            raise BadSettings(f"{path}: {error.strerror}") from error
+        except (tomllib.TOMLDecodeError, UnicodeDecodeError, RecursionError, BadSettings, Error) as error:
+            raise BadSettings(f"{path}: {error}") from error
+
+
+@contextlib.contextmanager
+def _waiting() -> Iterator[None]:
+    """Lets a block wait for the programs that it starts.
+
+    The master's handler of SIGCHLD waits for any process, and would take their exit statuses.
+    """
+    before = signal.pthread_sigmask(signal.SIG_BLOCK, {signal.SIGCHLD})
+    try:
+        yield
+    finally:
+        signal.pthread_sigmask(signal.SIG_SETMASK, before)
+
+
+def text_of(tables: dict[str, Any], program: str, collections: Container[str]) -> bytes:
+    """Returns the rules of a file with the URL keys that the program gives. Raises BadSettings, or Error."""
+    unknown = set(tables) - {"rules"}
+    given = tables.get("rules", [])
+    if unknown or not isinstance(given, list) or not all(isinstance(each, dict) for each in given):
+        raise BadSettings("it has [[rules]] and nothing else")
+    for number, table in enumerate(given, 1):
+        check(number, table, collections)
+    keys = keys_by_url(program, [url for table in given if (url := url_of(table))])
+    rules = [rule_of(table, keys) for table in given]
+    text = json.dumps(rules, ensure_ascii=False).encode()
+    if len(text) > MOST:
+        raise BadSettings(f"the rules have more than {MOST} bytes")
+    return text
+
+
+def check(number: int, table: dict[str, Any], collections: Container[str]) -> None:
+    """Raises BadSettings if a rule isn't one."""
+
+    def expect(holds: bool, what: str) -> None:
+        if not holds:
+            raise BadSettings(f"rule {number}: {what}")
+
+    action, embargo = table.get("action"), table.get("embargo", 1)
+    expect(action in ACTIONS, f"'action' has to be one of {', '.join(ACTIONS)}")
+    for name, value in table.items():
+        expect(name in ("action", "embargo", *TEXTS), f"there is no '{name}'")
+        is_text = isinstance(value, str) and value and "\n" not in value and "\r" not in value
+        expect(name not in TEXTS or bool(is_text), f"'{name}' has to be a text on one line")
+    expect(type(embargo) is int and 0 < embargo < 1_000_000, "'embargo' has to be a number of days")
+    for name in ("from", "to"):
+        expect(bool(_STAMP.fullmatch(table.get(name, "0"))), f"'{name}' has to be 1 to 14 digits")
+    expect(bool(_DIGEST.fullmatch(table.get("digest", "0"))), "'digest' can't be one")
+    expect(table.get("collection", "") in ("", *collections), "there is no such collection")
+    expect(len(table) > 1, "it names nothing")
+    expect(sum(name in table for name in TARGETS) < 2, f"it has more than one of {', '.join(TARGETS)}")
+
+
+def url_of(table: dict[str, Any]) -> str:
+    """Returns the URL of a rule whose key is needed, or no text."""
+    if host := table.get("host") or table.get("domain"):
+        return f"http://{host}/"
+    url: str = table.get("url") or table.get("prefix") or ""
+    return url if not url or _SCHEME.match(url) and "://" in url else f"http://{url}"
+
+
+def rule_of(table: dict[str, Any], keys: dict[str, str]) -> Rule:
+    """Returns a rule in the words of an index."""
+    key, front = table.get("key", ""), keys.get(url_of(table), "")
+    found = [key or front] if key or front else []
+    if "host" in table or "domain" in table:
+        host = front.partition(")")[0]
+        found = [host + end for end in (")", ":", ",")[: 2 + ("domain" in table)]]
+    digest = _DIGEST.fullmatch(table.get("digest", ""))
+    return Rule(
+        ACTIONS[table["action"]],
+        table.get("collection", ""),
+        found,
+        any(name in table for name in ("prefix", "host", "domain")),
+        table.get("from", ""),
+        table.get("to", ""),
+        table.get("embargo", 0),
+        digest[1] if digest else "",
+    )
+
+
+def keys_by_url(program: str, urls: Sequence[str]) -> dict[str, str]:
+    """Returns the URL keys of URLs. Raises BadSettings if one has none."""
+    if not urls:
+        return {}
+    found = [each.key.decode() for each in keys_of(program, [url.encode() for url in urls])]
+    keys = dict(zip(urls, found))
+    for url in urls:
+        if url not in keys or (url.startswith(WEB) and host_of(keys[url]) is None):
+            raise BadSettings(f"it isn't an address: {url}")
+    return keys
+
+
+def rules_of(text: bytes, collection: str) -> Rules:
+    """Returns the rules of a collection."""
+    rules = (Rule(*each) for each in json.loads(text or b"[]"))
+    return Rules(rule for rule in rules if rule.collection in ("", collection))
+
+
+def today() -> datetime.date:
+    return datetime.datetime.now(datetime.timezone.utc).date()
+
+
+def day_before(day: datetime.date, days: int) -> str:
+    """Returns the digits of the day some days before another one, all zeros if there is none."""
+    try:
+        return f"{day - datetime.timedelta(days):%Y%m%d}".rjust(8, "0")
+    except OverflowError:
+        return "00000000"
