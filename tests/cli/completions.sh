@@ -114,7 +114,7 @@ warcdx-verify a.warc --v|--version
 warcdx-fetch --|--all --archives --at --help --index --output --record --version --warcdx
 warcdx-fetch --a|--all --archives --at
 warcdx-fetch --at |
-warcdx-update --|--all-faults --dry-run --help --jobs --quiet --recursive --remove --report --scheduler --types --version --warcdx --warcdx-gz
+warcdx-update --|--all-faults --compact --dry-run --help --jobs --quiet --ratio --recursive --remove --report --scheduler --single --types --version --warcdx
 warcdx-update --re|--recursive --remove --report
 warcdx-update --jobs |
 warcdx-update --remove |

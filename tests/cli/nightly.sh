@@ -10,6 +10,7 @@
 set -euo pipefail
 source "$(dirname "$0")/../program.sh"
 read_program "$@"
+read_packed
 need systemd-analyze:systemd
 
 service=$root/examples/service

@@ -1,20 +1,19 @@
 #!/usr/bin/env bash
-# Runs the recipes of docs/recipes/, and compares what they print with what the pages show.
+# Runs the recipes of docs/RECIPES.md, and compares what they print with what the page shows.
 #
 # usage: recipes.sh [--shell SHELL] [--print RECIPE] [PROGRAM]
 #
-# A recipe is a section of a page. One SHELL, bash or zsh (default: bash), runs its blocks that begin
+# A recipe is a section of the page. One SHELL, bash or zsh (default: bash), runs its blocks that begin
 # with ```sh, one after another. The block that begins with ```text and follows one of them contains
 # what that one prints, errors included; without such a block it prints nothing. Each recipe runs in a
-# folder of its own, which the lines of docs/RECIPES.md have made. If Python's package surt is missing,
-# a stand-in takes its place. Ports, timestamps, offsets and identifiers of the first crawl differ from
-# run to run, and aren't compared.
+# folder of its own, which the page's first lines have made. Ports, timestamps, offsets and identifiers of
+# the crawl differ from run to run, and aren't compared.
 #
-# Then the contents in docs/RECIPES.md are compared with the headings of the pages.
+# Then the list at the top of the page is compared with its headings.
 #
 # Prints a line for each recipe, with the differences if there are any, and the counts. The exit
 # status is 0, or 1 if a recipe differs. With --print it prints only what RECIPE prints. Needs
-# Debian's packages gnuplot-nox, gzip, jq, parallel, pv, sqlite3, wget, xxd and that of the shell.
+# Debian's packages gnuplot-nox, gzip, jq, sqlite3, wget, xxd and that of the shell.
 set -euo pipefail
 source "$(dirname "$0")/../program.sh"
 source "$root/tests/cli/pages.sh"
@@ -31,18 +30,17 @@ if [ "${1-}" = --print ]; then
 fi
 read_program "$@"
 read_packed
-need gnuplot:gnuplot-nox gzip jq parallel pv sqlite3 wget xxd "$shell"
+need gnuplot:gnuplot-nox gzip jq sqlite3 wget xxd "$shell"
 
-pages=("$root"/docs/recipes/{indexes,records,queries,counts,other-programs}.md)
+page=$root/docs/RECIPES.md
 work=$(mktemp -d)
 trap 'rm -rf "$work"' EXIT
 
 lines_of() { # RECIPE
     awk -v "heading=## $1" '
-        FNR == 1 { inside = 0 }
         /^## / { inside = $0 == heading }
         inside
-    ' "${pages[@]}"
+    ' "$page"
 }
 
 # Prints what the page shows as the output of the blocks, with a line before that of each block.
@@ -69,9 +67,9 @@ in_folder() { # FOLDER SCRIPT: runs a script as a user does who has the commands
         PYTHONPATH="$root/python${PYTHONPATH:+:$PYTHONPATH}" "$shell" "$2" 2>&1 < /dev/null)
 }
 
-# Makes a folder by the lines of docs/RECIPES.md. The folders of the recipes are copies of it.
+# Makes a folder by the page's first lines. The folders of the recipes are copies of it.
 prepare() {
-    block_of "$root/docs/RECIPES.md" "share=" | sed "s:^share=.*:share='$root':" > "$work/script"
+    block_of "$page" "share=" | sed "s:^share=.*:share='$root':" > "$work/script"
     echo "cp --archive . '$work/files'" >> "$work/script"
     in_folder "$work" "$work/script"
 }
@@ -86,7 +84,7 @@ run() { # RECIPE: prints what its blocks print
 }
 
 masked() { # RECIPE: without what differs from run to run
-    if [ "$1" = 'A first crawl' ]; then
+    if [ "$1" = 'How do I go from a web site to a record?' ]; then
         sed -E -e 's/127\.0\.0\.1:[0-9]+/HOST/' -e 's/ [0-9]{14} [0-9]+$/ TIMESTAMP OFFSET/' \
             -e 's/urn:uuid:[0-9a-f-]+/IDENTIFIER/' -e 's/\r$//'
     else
@@ -95,38 +93,26 @@ masked() { # RECIPE: without what differs from run to run
 }
 
 recipes() { # their names
-    sed -n 's/^## //p' "${pages[@]}"
+    sed -n 's/^## //p' "$page"
 }
 
-# Prints what the contents have to be: for each page and each recipe a link, with the anchor that
-# GitHub makes of the heading.
+# Prints what the list has to be: for each recipe a link, with the anchor that GitHub makes of the heading.
 wanted_contents() {
-    local page recipe anchor
-    for page in "${pages[@]}"; do
-        echo "recipes/${page##*/}"
-        while IFS= read -r recipe; do
-            anchor=$(tr '[:upper:] ' '[:lower:]-' <<< "$recipe" | tr --delete "',.")
-            echo "- [$recipe](recipes/${page##*/}#$anchor)"
-        done < <(sed -n 's/^## //p' "$page")
-    done
+    local recipe anchor
+    while IFS= read -r recipe; do
+        anchor=$(tr '[:upper:] ' '[:lower:]-' <<< "$recipe" | tr --delete "',.?")
+        echo "- [$recipe](#$anchor)"
+    done < <(recipes)
 }
 
 contents() {
-    sed -n -e '/^- /p' -e 's/^\*\*.*(\(.*\))\*\*$/\1/p' "$root/docs/RECIPES.md"
-}
-
-make_stand_in() { # a module surt
-    mkdir "$work/python"
-    printf '%s\n' 'def surt(url):' '    host, _, path = url.partition("//")[2].partition("/")' \
-        '    return f"{host})/{path.lower()}".rstrip("/")' > "$work/python/surt.py"
-    export PYTHONPATH=$work/python
+    sed -n '/^- \[/p' "$page"
 }
 
 mkdir "$work/bin" "$work/files"
 ln -s "$program" "$work/bin/warcdx"
 ln -s "$packed" "$work/bin/warcdx-gz"
 prepare
-if ! python3 -c 'import surt' 2> /dev/null; then make_stand_in; fi
 if [ -n "$chosen" ]; then
     run "$chosen"
     exit

@@ -7,8 +7,7 @@ A session is an indented block whose first line begins with "$ ". Its lines that
 commands, and the lines after each are what that command prints, on standard output and standard
 error together. The sessions of a page run one after another in one folder, which contains samples/,
 examples/ and the program as ./warcdx. The program and the Python commands are on the PATH too.
-Sessions of examples/ with a server or with the package surt don't run: it has tests of them. If
-that package is missing, a stand-in takes its place in other sessions.
+Sessions with a server don't run. If the package surt is missing, a stand-in takes its place.
 
 Prints a line for each command, and the counts. The exit status is 0, or 1 if a command prints
 something else than its page shows.
@@ -27,12 +26,11 @@ sys.path.insert(0, str(pathlib.Path(__file__).resolve().parents[1]))
 from program import PACKED, ROOT, Report, add_program, find_packed_program, find_program, parser_of
 
 PAGES = (
-    "docs/CDX.md", "docs/COMMANDS.md", "docs/COMPRESSED.md", "docs/FAQ.md", "docs/PYWB.md", "docs/QUERY.md", "docs/VERIFY.md",
-    "examples/README.md",
+    "docs/COMMANDS.md", "docs/COMPRESSED.md", "docs/FAQ.md", "docs/OTHER_TOOLS.md", "docs/QUERY.md", "docs/VERIFY.md",
 )  # fmt: skip
 BLOCK = re.compile(r"(?:^    .*\n|^\n(?=(?:\n)*    ))+", re.MULTILINE)
 COMMAND = re.compile(r"^\$ (.*)\n((?:(?!\$ ).*\n)*)", re.MULTILINE)
-NOT_RUN = ("socat", "examples/surt_keys.py", "crawl.warc.gz", "whole.warc.gz")
+NOT_RUN = ("socat", "crawl.warc.gz", "whole.warc.gz")
 MARK = "-- end of command"
 STAND_IN = "def surt(url):\n    return url[::-1]\n"
 

@@ -13,6 +13,7 @@
 set -euo pipefail
 source "$(dirname "$0")/../program.sh"
 read_program "$@"
+read_packed
 PATH=$PATH:/usr/sbin:/sbin
 need adduser curl systemctl:systemd unshare:util-linux nsenter:util-linux gunicorn
 need_module prometheus_client python3-prometheus-client
@@ -43,7 +44,7 @@ trap clean EXIT
 # Mounts a copy of this system, puts the gateway there as a package does, and becomes its systemd.
 # shellcheck disable=SC2016 # the shell there expands it
 becomes_systemd='set -e
-    root=$1 program=$2 work=$3 unit=$4 system=$3/system
+    root=$1 program=$2 packed=$3 work=$4 unit=$5 system=$4/system
     mount --make-rprivate /
     mount -t tmpfs tmpfs "$work/layers"
     mkdir "$work/layers/upper" "$work/layers/work"
@@ -58,6 +59,7 @@ becomes_systemd='set -e
     mkdir -p "$system/opt/warcdx" "$system/etc/warcdx" "$system/srv"
     cp -r "$root/gateway" "$root/python" "$system/opt/warcdx"
     cp "$program" "$system/usr/bin/warcdx"
+    cp "$packed" "$system/usr/bin/warcdx-gz"
     ln -sf /opt/warcdx/gateway/bin/warcdx-gateway "$system/usr/bin/warcdx-gateway"
     ln -sf /opt/warcdx/python/bin/warcdx-update "$system/usr/bin/warcdx-update"
     cp "$root/gateway/service/$unit" "$root"/examples/service/warcdx-update.{service,timer} "$system/etc/systemd/system"
@@ -76,7 +78,7 @@ start_systemd() {
     (
         echo "$BASHPID" > "$groups/cgroup.procs"
         exec unshare --pid --fork --kill-child --mount --uts --ipc --cgroup --net \
-            bash -c "$becomes_systemd" bash "$root" "$program" "$work" "$unit"
+            bash -c "$becomes_systemd" bash "$root" "$program" "$packed" "$work" "$unit"
     ) > "$work/log" 2>&1 &
     for _ in $(seq 200); do
         manager=$(pgrep --parent "$!" || true)

@@ -28,22 +28,29 @@ row "\`it is a revisit, and no index has its original\`"
 row "\`it is there, and isn't replaced\`"
 : > there
 shows "a file" "it is there, and isn't replaced" run_python fetch --warcdx "$program" --index response.cdxj --archives "$root/samples" -o there http://example.com/
-row "\`isn't a file of --resume, and stays as it is\`, \`is damaged, and stays as it is; remove it to verify all archives again\`"
+row "\`isn't a file of --resume, and stays as it is\`, \`isn't a regular file\`"
 echo other > notes
 shows "a file of another program" "isn't a file of --resume, and stays as it is" run_python verify --warcdx "$program" --resume notes "$root/samples/wget.warc"
+shows "a folder" "isn't a regular file" run_python verify --warcdx "$program" --resume . "$root/samples/wget.warc"
 row "\`no digest was compared\`"
 shows "an archive without digests" "no digest was compared" run_python verify --warcdx "$program" response.warc
 
 row "\`a process has ended with signal\`"
-row "\`the file was changed meanwhile\`"
+row "\`the archive ends in the record\`"
 
 row "\`another process updates this index\`"
 prepare_locked() {
     run_python update --warcdx "$program" --quiet folder locked
 }
 prints "a first run" "" prepare_locked
+# Another process has the database, as an update has.
 locked() {
-    flock locked.parts/lock "$root/python/bin/warcdx-update" --warcdx "$program" --quiet folder locked
+    python3 -c 'if True:
+        import sqlite3, subprocess, sys
+        database = sqlite3.connect("locked.d/state.db", isolation_level=None)
+        database.execute("BEGIN EXCLUSIVE")
+        sys.exit(subprocess.call(sys.argv[1:]))
+    ' "$root/python/bin/warcdx-update" --warcdx "$program" --quiet folder locked
 }
 shows "a second run" "another process updates this index" locked
 
@@ -54,14 +61,8 @@ update() { # ARGUMENT..
 row "\`as it is, and it isn't replaced\`, \`isn't a regular file, and isn't replaced\`"
 echo x > text
 shows "another file" "as it is, and it isn't replaced" update folder text
-mkdir indexfolder
-shows "a folder as index" "isn't a regular file, and isn't replaced" update folder indexfolder
-
-row "\`as its report, and it isn't replaced\`"
-shows "another report" "as its report, and it isn't replaced" update --report text folder reported
-
-row "\`belongs to the index, and can't be its report\`"
-shows "the index as report" "belongs to the index, and can't be its report" update --report reported folder reported
+mkfifo indexpipe
+shows "a pipe as index" "isn't a regular file, and isn't replaced" update folder indexpipe
 
 row "\`archives are gone, the first of them\`, \`is gone; the index keeps its captures\`"
 mkdir leaving
@@ -78,53 +79,61 @@ shows "another folder" "it is the index of another folder," update leaving locke
 shows "another option" "it was made without --recursive" update --recursive folder locked
 shows "other types" "it was made with --types response,resource,revisit" update --types metadata folder locked
 
-row "\`the folder of archives is in the folder of parts,\`, \`with --recursive, the folder of parts,\`"
-shows "archives in the parts" "the folder of archives is in the folder of parts," update locked.parts locked
-shows "parts in the archives" "with --recursive, the folder of parts," update --recursive folder folder/all.cdxj
+row "\`the folder of archives is in the folder of the index,\`, \`with --recursive, the folder of the index,\`"
+shows "archives in the index" "the folder of archives is in the folder of the index," update locked.d locked
+shows "the index in the archives" "with --recursive, the folder of the index," update --recursive folder folder/all.cdxj
 
 row "\`warcdx-update hasn't made all that is in\`, \`and doesn't use it\`"
-mkdir other.parts
-touch other.parts/thesis.txt
-shows "other files in the parts" "warcdx-update hasn't made all that is in" update folder other
+mkdir other.d
+touch other.d/thesis.txt
+shows "other files in the folder" "warcdx-update hasn't made all that is in" update folder other
+
+row "\`warcdx-update hasn't made\`, \`and doesn't replace it\`"
+update folder currentindex
+rm currentindex.d/current
+touch currentindex.d/current
+shows "another file in the folder" "and doesn't replace it" update folder currentindex
 
 row "\`is a link that leads to nothing; is its disk mounted?\`"
-ln -s nosuch linked.parts
-shows "parts that aren't there" "is a link that leads to nothing; is its disk mounted?" update folder linked
+ln -s nosuch linked.d
+shows "a folder that isn't there" "is a link that leads to nothing; is its disk mounted?" update folder linked
 
-row "\`another version of warcdx-update has made\`, \`isn't as warcdx-update writes it\`, \`isn't a log that this version has written\`, \`names a file that isn't a part:\`"
+row "\`another version of warcdx-update has made\`, \`state.db: file is not a database\`, \`state.db: database disk image is malformed\`"
+database() { # FILE COMMAND
+    python3 -c 'import sqlite3, sys; sqlite3.connect(sys.argv[1], isolation_level=None).execute(sys.argv[2])' "$@"
+}
 update folder changed
-sed -i 's/"form": 1/"form": 9/' changed.parts/settings.json
+database changed.d/state.db "PRAGMA user_version = 9"
 shows "another version" "another version of warcdx-update has made" update folder changed
-sed -i -e 's/"form": 9/"form": 1/' -e 's/"recursive": false/"recursive": 7/' changed.parts/settings.json
-shows "other settings" "isn't as warcdx-update writes it" update folder changed
-sed -i 's/"recursive": 7/"recursive": false/' changed.parts/settings.json
-sed -i 's/"[0-9a-f]\{32\}"/"conf"/' changed.parts/log.jsonl
-shows "another file in the log" "names a file that isn't a part:" update folder changed
-: > changed.parts/log.jsonl
-shows "another log" "isn't a log that this version has written" update folder changed
+database changed.d/state.db "PRAGMA user_version = 1"
+head -c 1000 /dev/zero > changed.d/state.db
+shows "another database" "state.db: file is not a database" update folder changed
 
-row "\`parts are missing or damaged and can't be made anew, such as of\`"
+row "\`state.db isn't as warcdx-update has written it;\`, \`state.db is missing;\`, \`restore it from a backup, or move the index away and make it anew\`"
+update folder altered
+database altered.d/state.db "DELETE FROM settings"
+shows "a database without settings" "state.db isn't as warcdx-update has written it; restore it from a backup, or move the index away and make it anew" update folder altered
+rm altered.d/state.db
+shows "a folder without a database" "state.db is missing; restore it from a backup, or move the index away and make it anew" update folder altered
+
+row "\`state.db: unable to open database file\`, \`state.db: disk I/O error\`"
+update folder unopened
+mkdir unopened.d/state.db-journal
+shows "a database that can't be written" "state.db: disk I/O error" update folder unopened
+
+row "\`archives can't be indexed anew whose runs are missing or damaged, such as\`"
 mkdir lost
 cp response.warc lost
 update lost lostindex
-rm lost/response.warc lostindex.parts/*[0-9a-f]
+rm lost/response.warc lostindex.d/runs/*
 cp wget.warc lost
-shows "a lost part" "parts are missing or damaged and can't be made anew, such as of" update lost lostindex
+shows "a lost run" "archives can't be indexed anew whose runs are missing or damaged, such as" update lost lostindex
 
 row "\`the system hasn't given the status of the program\`"
 row "\`something else has removed\`"
 
-row "\`this is a folder\`"
-shows "the root as index" "this is a folder" update folder /
-
-row "\`is damaged; the next update indexes its archive anew\`"
-run_python update --warcdx "$program" --quiet folder damaged
-for file in damaged.parts/*[0-9a-f].json damaged.parts/made.jsonl; do
-    : > "$file"
-done
-shows "damaged counts" "is damaged; the next update indexes its archive anew" run_python update --warcdx "$program" --quiet folder damaged
-
-row "\`the parts have N captures, and the index of them has M\`"
+row "\`is large, and each update writes all of it\`, \`.d is the same index, and costs only what is new\`"
+row "\`the archives of runs have N captures, and the runs M, or these were changed\`"
 row "\`the module distributed is missing (Debian's package python3-distributed)\`, \`Python's package surt is missing\`"
 
 body() { # FILE: the body of the record
@@ -164,10 +173,17 @@ row "\`the input isn't a record\`, \`the record has no length\`, \`the head of t
 shows "another file" "the input isn't a record" body text
 
 # The tests of the gateway have its refusals, and what it says of indexes.
-for refusals in Host "BadPage BadSort BadQuery" "TooMany TooLarge" "TooSlow TooBusy" Changed; do
-    # shellcheck disable=SC2016,SC2086 # several names
-    row "$(printf '`refused %s`, ' $refusals | sed 's/, $//')"
-done
+rows_of_refusals() { # NAMES..
+    local names
+    for names in "$@"; do
+        # shellcheck disable=SC2016,SC2086 # several names
+        row "$(printf '`refused %s`, ' $names | sed 's/, $//')"
+    done
+}
+rows_of_refusals Host BadBody "BadPage BadSort BadQuery" "TooMany TooLarge" "TooSlow TooBusy"
+row "\`the old rules stay in use\` on standard error"
+row "\`This capture can't be shown.\`, with status 451"
+rows_of_refusals Changed
 row "\`an index in use was changed: replace indexes by mv\` on standard error"
 row "\`the old indexes stay in use\`, and \`/health\` says \`the old indexes are in use\`"
 row "\`couldn't be checked\`, \`the check of the indexes was ended\`"

@@ -5,7 +5,7 @@ usage: gateway_memory.py [--size BYTES] [PROGRAM]
 
 The index has one line of BYTES bytes (default: 16,777,216, the limit of a line), whose URL is `%` or `é` again and
 again. Each request is answered by a gateway of its own. The memory is that of its largest process at its peak. For
-each byte of the line it has to be what docs/COSTS.md says, at most a tenth more. An answer may take 3 s of the
+each byte of the line it has to be what docs/SIZING.md says, at most a tenth more. An answer may take 3 s of the
 processors.
 
 Prints a line for each request, and the counts. The exit status is 0, 1 if a figure is exceeded or an answer isn't

@@ -1,10 +1,9 @@
 #!/usr/bin/env bash
-# Reads the ELF headers of both programs, and compares what they are built with to what docs/HARDENING.md says.
+# Reads the ELF headers of both programs, and compares what they are built with to what SECURITY.md says.
 #
 # usage: hardening.sh [PROGRAM]
 #
-# What the page says that the programs lack is compared too, so that the page is changed once they have it. The functions
-# of C that docs/TRUST.md lists are compared with those that the programs import, and with the count beside them.
+# What the page says that the programs lack is compared too, so that the page is changed once they have it.
 #
 # Prints a line for each case, and the counts. The exit status is 0, or 1 if a case differs. Needs readelf (Debian's
 # package binutils).
@@ -23,13 +22,8 @@ flags_of() { # SEGMENT: those of its memory, such as RW, a line for each segment
     awk -v type="$1" '$1 == type { flags = ""; for (i = 7; i < NF; i++) flags = flags $i; print flags }' <<< "$segments"
 }
 
-page=$root/docs/TRUST.md
-rows=$(sed -n '/^| C function /,/^$/p' "$page")
-# shellcheck disable=SC2016  # the backquotes of the page
-unused=$(grep "the binary doesn't import them" <<< "$rows" | cut --delimiter='|' --fields=2 | grep --only-matching '`[^`]*`' | tr --delete '`')
-
 check() { # PROGRAM
-    local name=${1##*/} headers segments dynamic symbols notes imported
+    local name=${1##*/} headers segments dynamic symbols notes
     headers=$(readelf --file-header --wide "$1")
     segments=$(readelf --program-headers --wide "$1")
     dynamic=$(readelf --dynamic --wide "$1")
@@ -48,13 +42,8 @@ check() { # PROGRAM
     expect "$name: stack protector" no "$(has "$symbols" ' __stack_chk_fail')"
     expect "$name: fortified functions" no "$(has "$symbols" ' __[a-z]+_chk(@|$)')"
     expect "$name: control flow integrity" no "$(has "$notes" 'x86 feature: .*(IBT|SHSTK)')"
-    imported=$(awk '$7 == "UND" && $8 { sub(/@.*/, "", $8); print $8 }' <<< "$symbols")
-    expect "$name: functions that it imports, and the page says it doesn't" "" "$(grep --fixed-strings --line-regexp "$unused" <<< "$imported" || true)"
 }
 
 check "$program"
 check "$packed"
-# shellcheck disable=SC2016
-expect "functions that the page lists" "$(sed -n 's/^| `axioms=\([0-9]*\)`.*/\1/p' "$page")" \
-    "$(cut --delimiter='|' --fields=2 <<< "$rows" | grep --only-matching '`[^`]*`' | grep --count --invert-match --extended-regexp '`(malloc|realloc|free)`')"
 end_script

@@ -7,7 +7,7 @@ Each input is made of one piece, which is repeated until the input has BYTES byt
 16,777,216, the limit of a line of an index), or each of its two lines. Of less than 8,000,000, the
 memory that this script holds itself would be measured. The memory is that of the run at its peak, or
 of the larger of a command in Python and the program. For each byte of the input, or of one line, it
-has to be what docs/COSTS.md says: at most a tenth more than the figure in INPUTS, and at least
+has to be what docs/SIZING.md says: at most a tenth more than the figure in INPUTS, and at least
 two thirds of it, so that a figure that is too high is noticed too.
 
 Prints a line for each input and command, and the counts. The exit status is 0, or 1 if a figure isn't as stated.
@@ -50,17 +50,17 @@ AS_KEY = ' 2016010100000NUMBER {"url": "u", "offset": "0", "filename": "a"}\n'
 AS_URL = '", "offset": "0", "filename": "a"}\n'
 AFTER_TYPE = f" - - {'r' * 200} - - 0 a\n"  # the line in the index is the shorter one
 WITH_RESUME_KEY = f"{ALL}&showResumeKey=true"
-OF_URLS = ((("check",), 4.2), (("merge",), 4.2), (("query", ALL), 5.2), (("pages", "1", ALL), 5.2), (("warcdx-cdx", "to"), 7.1))
+OF_URLS = ((("check",), 2.2), (("merge",), 2.2), (("query", ALL), 3.2), (("pages", "1", ALL), 3.2), (("warcdx-cdx", "to"), 7.1))
 OF_KEYS = (
-    (("check",), 3.2), (("merge",), 3.2), (("query", ALL), 5.2), (("query", f"{WITH_RESUME_KEY}&limit=1"), 8.2),
-    (("pages", "1", WITH_RESUME_KEY), 11.2), (("warcdx-cdx", "to"), 4.9),
+    (("check",), 3.2), (("merge",), 3.2), (("query", ALL), 4.2), (("query", f"{WITH_RESUME_KEY}&limit=1"), 8.2),
+    (("pages", "1", WITH_RESUME_KEY), 10.2), (("warcdx-cdx", "to"), 4.9),
 )  # fmt: skip
 OF_LINES = ((("check",), 3.2), (("merge",), 3.2), (("query", ALL), 3.2))
 INPUTS = (
     Input("a line with nested objects", f'{OBJECT}"a": [', OBJECTS, ARRAY_END, OF_LINES),
     Input("a line with small objects", f'{OBJECT}"a": [', '{"":0},', ARRAY_END, OF_LINES),
     Input("a line with nested arrays", f'{OBJECT}"a": [', ARRAYS, ARRAY_END, OF_LINES),
-    Input("a line with a long URL", f'{OBJECT}"url": "', "a", '", "offset": "0", "filename": "a"}\n', ((("query", ALL), 5.2),)),
+    Input("a line with a long URL", f'{OBJECT}"url": "', "a", '", "offset": "0", "filename": "a"}\n', ((("query", ALL), 3.2),)),
     Input("a line with a URL of %", f'{OBJECT}"url": "', PERCENT, AS_URL, OF_URLS),
     Input("a line with a URL of é", f'{OBJECT}"url": "', ACCENT, AS_URL, OF_URLS),
     Input("two lines with URL keys of %", "", PERCENT, AS_KEY, OF_KEYS, 2),

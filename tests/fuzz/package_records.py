@@ -27,7 +27,8 @@ from random_changes import mutated
 from random_members import damaged, member
 from trial import Trial
 
-from warcdx import Archive, CompressedArchive, Error, Fault, Record, open_archive, usual_records
+from warcdx import Archive, CompressedArchive, Error, Fault, Listed, Record, open_archive, usual_records
+from warcdx.record import RecordStream
 from warcdx.verifying import Checked, check_archive, check_listed
 
 Place = tuple[int, Optional[int]]  # an offset and a length
@@ -149,14 +150,14 @@ def streamed(archive: Archive, offset: int, length: Optional[int]) -> bytes:
 
 
 def count_asks(archive: Archive) -> list[int]:
-    """Returns the offsets at which an archive asks the program for a record, as they come."""
-    ask, offsets = archive._record_by_program, []
+    """Returns the offsets from which on an archive has the program list its records, as they come."""
+    ask, offsets = archive.listed_streams, list[int]()
 
-    def counted(offset: int, length: Optional[int] = None) -> Record:
-        offsets.append(offset)
-        return ask(offset, length)
+    def counted(start: int = 0) -> Iterator[tuple[Listed, RecordStream]]:
+        offsets.append(start)
+        return ask(start)
 
-    archive._record_by_program = counted  # type: ignore[method-assign]
+    archive.listed_streams = counted  # type: ignore[method-assign]
     return offsets
 
 
@@ -176,7 +177,7 @@ def some_places(choice: random.Random, archive: Archive, size: int) -> list[Plac
 def expect_same(trial: Trial, here: Archive, asked: Archive, size: int) -> None:
     asks = count_asks(here)
     found, wanted = all_of(here), all_of(asked)
-    trial.tally["places at which an iteration asks the program"] += len(asks)
+    trial.tally["iterations that ask the program"] += len(asks)
     trial.check(found == wanted, f"{here.path} has {found!s:.1500}\nand by the program {wanted!s:.1500}")
     expect_places(trial, found, asked)
     usual_records._MOST_HELD, usual_records._AHEAD = trial.choice.choice(((1 << 20, 1 << 16), (0, 1 << 16), (100, 509), (1000, 50)))

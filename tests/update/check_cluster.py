@@ -115,7 +115,7 @@ def a_worker_that_returns_late_changes_nothing(program: pathlib.Path, folder: pa
 
 
 def files_of(trial: Trial) -> dict[pathlib.Path, bytes]:
-    paths = [trial.index, *trial.parts.rglob("*")]
+    paths = [trial.index, *trial.store.rglob("*")]
     return {path: path.read_bytes() for path in paths if path.is_file()}
 
 
@@ -123,7 +123,7 @@ def an_archive_that_kills_workers_is_given_up(program: pathlib.Path, folder: pat
     """After as many deaths of workers as the scheduler allows. The workers are restarted by Dask."""
     trial = Trial(program, folder)
     lines = trial.program.read_text().splitlines()
-    lines.insert(-1, "case $2 in */05.warc) kill -9 $PPID; sleep 1;; esac")
+    lines.insert(-1, 'case "$*" in *./05.warc*) kill -9 $PPID; sleep 1;; esac')
     trial.program.write_text("\n".join([*lines, ""]))
     os.environ["DASK_DISTRIBUTED__SCHEDULER__ALLOWED_FAILURES"] = "1"
     with running(folder, "scheduler", "--host", "127.0.0.1", "--port", "0", "--no-dashboard"):

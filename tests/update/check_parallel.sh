@@ -1,5 +1,5 @@
 #!/usr/bin/env bash
-# Runs the lines of docs/MANY_MACHINES.md that index archives by GNU parallel over ssh, and compares their index with that of all archives.
+# Runs the lines of docs/FOLDER.md that index archives by GNU parallel over ssh, and compares their index with that of all archives.
 #
 # usage: check_parallel.sh [PROGRAM]
 #
@@ -66,7 +66,7 @@ END
 }
 
 take_lines() { # the three of the page, on the folder of this test
-    grep --extended-regexp '^    (parallel --sshloginfile|awk|warcdx merge) ' "$root/docs/MANY_MACHINES.md" | sed "s:/data:$work/data:g" > "$work/lines"
+    grep --extended-regexp '^    (parallel --sshloginfile|awk|warcdx merge) ' "$root/docs/FOLDER.md" | sed "s:/data:$work/data:g" > "$work/lines"
 }
 
 run_lines() {
@@ -76,7 +76,7 @@ run_lines() {
 make_archives
 make_program
 take_lines
-expect "number of lines of docs/MANY_MACHINES.md" 3 "$(wc -l < "$work/lines")"
+expect "number of lines of docs/FOLDER.md" 3 "$(wc -l < "$work/lines")"
 start_server
 run_lines > "$work/faulty" 2> "$work/errors" || say_differs "exit status of the lines" "$(< "$work/errors")"
 expect "exit statuses of archives that failed" "1 3" "$(cut -f 7 "$work/faulty" | sort | paste -sd' ')"

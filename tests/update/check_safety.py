@@ -14,6 +14,7 @@ import pathlib
 import sys
 import tempfile
 
+import changing_states
 import killed_runs
 import large_states
 import leaving_runs
@@ -31,10 +32,10 @@ def main() -> int:
     add_program(parser)
     given = parser.parse_args()
     program = find_program(given.program)
-    for module in (neighbours, replaced_results, leaving_runs, reported_faults, killed_runs, large_states):
+    for module in (neighbours, replaced_results, leaving_runs, reported_faults, killed_runs, changing_states, large_states):
         for case in module.CASES:
             title = case.__name__.replace("_", " ")
-            if case is killed_runs.runs_that_are_killed_lose_nothing:
+            if case in (killed_runs.runs_that_are_killed_lose_nothing, changing_states.answers_are_those_of_a_state_that_was):
                 case = functools.partial(case, seed=given.seed)
             with tempfile.TemporaryDirectory() as name:
                 try:

@@ -8,7 +8,6 @@ strace and python3-tqdm; without these they are left out. The moments at which r
 """
 import contextlib
 import importlib.util
-import json
 import os
 import pathlib
 import pty
@@ -22,11 +21,11 @@ import tempfile
 import time
 
 from failing_runs import (
-    a_full_disk_is_reported, a_report_replaces_no_other_file, a_signal_ends_a_run, an_archive_that_cannot_be_read_keeps_its_part,
-    counts_that_are_damaged_are_made_anew, memory_may_be_refused, parts_that_are_damaged_leave_the_index, streams_may_be_closed
+    a_full_disk_is_reported, a_signal_ends_a_run, an_archive_that_cannot_be_read_keeps_its_captures, memory_may_be_refused,
+    runs_that_are_damaged_are_made_anew, streams_may_be_closed
 )
 from update_trial import (
-    FAILING, SLOW, WAIT, Differs, Trial, compressed, copy_sample, expect, index_of, index_of_folders, kill_group, merged, sample, until, until_unlocked
+    FAILING, SLOW, WAIT, Differs, Trial, compressed, copy_sample, expect, index_of, index_of_folders, kill_group, merged, sample, until
 )
 
 from program import Report, add_program, find_packed_program, find_program, parser_of  # isort: skip
@@ -69,6 +68,8 @@ def the_index_of_a_thousand_archives(program: pathlib.Path, folder: pathlib.Path
     expect("captures", trial.wanted.count(b"\n"), 3 * MANY - MANY // 10)  # a damaged one has two
     expect("status", trial.run(), 1)
     trial.expect_results(damaged_of(trial), trial.wanted)
+    started = (folder / "started").read_text().splitlines()
+    expect("runs of the program", len(started) < MANY // 10, True)
     lines = [line for line in trial.said if re.search(r"archives, [0-9]+ %$", line)]
     expect("lines of progress", (len(lines) <= 101, lines[-1]), (True, "warcdx-update: 1,000 of 1,000 archives, 100 %"))
     trial.forget()
@@ -88,7 +89,8 @@ def only_a_new_archive_is_read(program: pathlib.Path, folder: pathlib.Path) -> N
     copy_sample("wget", trial.archives / "new.warc")
     trace = folder / "trace"
     calls = ("strace", "--follow-forks", "--decode-fds=path", "--trace=read,pread64,readv", "--output", str(trace))
-    subprocess.run((*calls, *trial.command("--quiet")), stderr=subprocess.DEVNULL)
+    with open(trial.report, "wb") as report:
+        subprocess.run((*calls, *trial.command("--quiet")), stdout=report, stderr=subprocess.DEVNULL)
     reads: dict[str, int] = {}
     for path, count in re.findall(r"\(\d+<([^>]*)>.* = (\d+)$", trace.read_text(errors="replace"), re.MULTILINE):
         if path.startswith(str(trial.archives)):
@@ -116,7 +118,6 @@ def a_run_that_is_killed_loses_nothing(program: pathlib.Path, folder: pathlib.Pa
         time.sleep(RANDOM.uniform(0.02, seconds))
         kill_group(work, signal.SIGKILL)
         work.wait()
-        until_unlocked(trial)
         expect(f"index after kill {number}", trial.index.read_bytes() in (before, wanted), True)
         if number % 4 == 3:
             expect("status", trial.run(), 1)
@@ -166,7 +167,7 @@ def files_have_the_modes_of_the_umask(program: pathlib.Path, folder: pathlib.Pat
     """An index that was there keeps its mode."""
     trial = Trial(program, folder)
     expect("status", trial.start(umask=0o027).wait(WAIT), 1)
-    made = [trial.index, trial.folder / "all.cdxj.summary.json", *trial.parts.iterdir()]
+    made = [trial.index, *(path for path in trial.store.rglob("*") if path.is_file())]
     expect("modes", {oct(path.stat().st_mode & 0o777) for path in made}, {"0o640"})
     trial.index.chmod(0o604)
     (trial.archives / "03.warc").unlink()
@@ -240,16 +241,23 @@ def a_further_run_indexes_what_is_new(program: pathlib.Path, folder: pathlib.Pat
     trial.expect_results({"07.warc": 1}, trial.index_of("*.warc"))
 
 
-def a_line_of_the_log_that_is_broken_off_is_indexed_again(program: pathlib.Path, folder: pathlib.Path) -> None:
+def a_database_that_is_damaged_is_refused(program: pathlib.Path, folder: pathlib.Path) -> None:
+    """The index stays as it was, also for those that read its runs."""
     trial = Trial(program, folder)
     expect("status", trial.run(), 1)
-    log = trial.parts / "log.jsonl"
-    *lines, last, _ = log.read_text().split("\n")
-    log.write_text("\n".join([*lines, "\0\0\0", last[:20]]))
-    trial.forget()
+    database = trial.store / "state.db"
+    whole = database.read_bytes()
+    copy_sample("response", trial.archives / "new.warc")
+    for text in (b"", b"notes\n" * 100, whole[:5000], whole[:100] + bytes(len(whole) - 100), bytes(16) + whole[16:]):
+        database.write_bytes(text)
+        expect("status", trial.run(), 3)
+        expect("lines", (len(trial.said), "Traceback" in trial.said[0]), (1, False))
+        expect("database", database.read_bytes() == text, True)
+        expect("index", trial.index.read_bytes() == trial.wanted, True)
+        expect("runs", merged(program, trial.runs) == trial.wanted, True)
+    database.write_bytes(whole)
     expect("status", trial.run(), 1)
-    expect("archives", [name for _, name in trial.begun], [json.loads(last)[0]])
-    trial.expect_results({"07.warc": 1}, trial.wanted)
+    trial.expect_results({"07.warc": 1}, trial.index_of("*.warc"))
 
 
 def a_terminal_shows_the_bytes(program: pathlib.Path, folder: pathlib.Path) -> None:
@@ -259,7 +267,9 @@ def a_terminal_shows_the_bytes(program: pathlib.Path, folder: pathlib.Path) -> N
         return
     size = sum(path.stat().st_size for path in trial.archives.iterdir())
     terminal, device = pty.openpty()
-    with subprocess.Popen(trial.command(), stdin=subprocess.DEVNULL, stderr=device) as work:
+    with open(trial.report, "wb") as report, subprocess.Popen(
+        trial.command(), stdin=subprocess.DEVNULL, stdout=report, stderr=device
+    ) as work:
         os.close(device)
         shown = bytearray()
         with contextlib.suppress(OSError):  # the end of a terminal
@@ -277,7 +287,7 @@ def a_second_run_is_refused(program: pathlib.Path, folder: pathlib.Path) -> None
     trial = Trial(program, folder, SLOW)
     first = trial.start()
     until("the first run", lambda: trial.begun)
-    second = subprocess.run(trial.command(), stderr=subprocess.PIPE)
+    second = subprocess.run(trial.usual_command(), stderr=subprocess.PIPE)
     expect("status", second.returncode, 3)
     expect("line", second.stderr.decode(), f"warcdx-update: {trial.index}: another process updates this index\n")
     expect("status of the first run", first.wait(WAIT), 1)
@@ -291,7 +301,7 @@ def another_file_is_not_replaced(program: pathlib.Path, folder: pathlib.Path) ->
     line = f"warcdx-update: {trial.index}: no earlier run has made {trial.index} as it is, and it isn't replaced"
     expect("line", trial.said, [line])
     expect("file", trial.index.read_bytes(), sample("wget"))
-    expect("parts", trial.parts.exists(), False)
+    expect("folder of the index", trial.store.exists(), False)
     trial.index.write_bytes(trial.wanted)
     expect("status over an index of another program", trial.run(), 3)
     expect("line", trial.said, [line])
@@ -309,8 +319,7 @@ def the_summary_counts_the_captures(program: pathlib.Path, folder: pathlib.Path)
         copy_sample("response", trial.archives / f"{name}.warc")
     copy_sample("damaged", trial.archives / "damaged.warc")
     expect("status", trial.run(), 1)
-    trial_summary = lambda: json.loads((folder / "all.cdxj.summary.json").read_text())  # noqa: E731
-    summary = trial_summary()
+    summary = trial.summary
     damage = subprocess.run((program, "list", trial.archives / "damaged.warc"), stdout=subprocess.PIPE, text=True).stdout.split()
     wanted = {
         "archives": 4,
@@ -321,7 +330,7 @@ def the_summary_counts_the_captures(program: pathlib.Path, folder: pathlib.Path)
     (trial.archives / "damaged.warc").unlink()
     (trial.archives / "c.warc").unlink()
     expect("status", trial.run("--remove", "50%"), 0)
-    summary = trial_summary()
+    summary = trial.summary
     made = summary.pop("made")
     expect("time", bool(re.fullmatch(r"20[0-9]{2}-[0-9]{2}-[0-9]{2}T[0-9]{2}:[0-9]{2}:[0-9]{2}Z", made)), True)
     expect(
@@ -350,20 +359,18 @@ CASES = (
     a_run_that_is_killed_loses_nothing,
     a_signal_ends_a_run,
     an_archive_that_fails_is_tried_again_and_reported,
-    an_archive_that_cannot_be_read_keeps_its_part,
+    an_archive_that_cannot_be_read_keeps_its_captures,
     a_file_may_have_any_name,
     archives_are_told_apart_by_their_first_bytes,
     files_have_the_modes_of_the_umask,
     folders_below_are_read_if_they_are_to_be,
     a_folder_that_cannot_be_read_keeps_its_captures,
     a_further_run_indexes_what_is_new,
-    a_line_of_the_log_that_is_broken_off_is_indexed_again,
+    a_database_that_is_damaged_is_refused,
     a_terminal_shows_the_bytes,
     a_second_run_is_refused,
     another_file_is_not_replaced,
-    parts_that_are_damaged_leave_the_index,
-    counts_that_are_damaged_are_made_anew,
-    a_report_replaces_no_other_file,
+    runs_that_are_damaged_are_made_anew,
     a_full_disk_is_reported,
     streams_may_be_closed,
     memory_may_be_refused,

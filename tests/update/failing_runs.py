@@ -8,6 +8,10 @@ import time
 from update_trial import SLOW, WAIT, Trial, children_of, copy_sample, expect, until
 
 
+def unfinished(trial: Trial) -> list[pathlib.Path]:
+    return list(trial.store.glob("runs/*.new*"))
+
+
 def a_signal_ends_a_run(program: pathlib.Path, folder: pathlib.Path) -> None:
     """It ends as the signal says, without a word. No program goes on, and nothing is left but the parts that are whole."""
     trial = Trial(program, folder, SLOW)
@@ -25,7 +29,7 @@ def a_signal_ends_a_run(program: pathlib.Path, folder: pathlib.Path) -> None:
             for child in children:
                 until("the end of the programs", lambda: not os.path.exists(f"/proc/{child}"))
             expect("temporary files", list(temporary.iterdir()), [])
-            expect("unfinished files", list(trial.parts.glob("*-*")), [])
+            expect("unfinished files", unfinished(trial), [])
     kept = trial.done
     trial.forget()
     expect("status", trial.run(), 1)
@@ -38,22 +42,24 @@ def a_full_disk_is_reported(program: pathlib.Path, folder: pathlib.Path) -> None
     trial = Trial(program, folder)
     disk = folder / "disk"
     disk.mkdir()
-    if subprocess.run(("mount", "-t", "tmpfs", "-o", "size=64k", "tmpfs", disk), stderr=subprocess.DEVNULL).returncode:
+    if subprocess.run(("mount", "-t", "tmpfs", "-o", "size=8k", "tmpfs", disk), stderr=subprocess.DEVNULL).returncode:
         print("skipped  a full disk: only root can make one")
         return
     try:
-        trial.index, trial.parts = disk / "all.cdxj", disk / "all.cdxj.parts"
-        for setting in ({}, {"PYTHONUNBUFFERED": "1"}):
-            expect("status", trial.start(env={**os.environ, **setting}).wait(WAIT), 3)
-            reasons = [line for line in trial.said if "%" not in line and "fault" not in line]
-            expect("reasons", [line for line in reasons if "No space left on device" not in line], [])
-            expect("a reason", len(reasons) > 0, True)
-            expect("tracebacks", "Traceback" in "\n".join(trial.said), False)
-            expect("index", trial.index.exists(), False)
+        trial.index, trial.store = disk / "all.cdxj", disk / "all.cdxj.d"
+        for size in (8, 24, 40, 56, 64, 80, 100):
+            subprocess.run(("mount", "-o", f"remount,size={size}k", disk), check=True)
+            for setting in ({}, {"PYTHONUNBUFFERED": "1"}):
+                expect(f"status with {size} kB", trial.start(env={**os.environ, **setting}).wait(WAIT), 3)
+                lines = [line for line in trial.said if not any(each in line for each in ("archives, ", " captures of ", "fault "))]
+                expect("other reasons", [line for line in lines if "No space left on device" not in line], [])
+                expect("a reason", len(lines) > 0, True)
+                texts = [path.read_bytes() for path in (trial.index, *trial.runs) if path.exists()]
+                expect("other lines", {line for text in texts for line in text.splitlines()} - set(trial.wanted.splitlines()), set())
         subprocess.run(("mount", "-o", "remount,size=64m", disk), check=True)
         expect("status with room", trial.run(), 1)
         expect("index", trial.index.read_bytes() == trial.wanted, True)
-        trial.expect_parts()
+        trial.expect_store()
     finally:
         subprocess.run(("umount", disk), check=True)
 
@@ -62,10 +68,11 @@ def streams_may_be_closed(program: pathlib.Path, folder: pathlib.Path) -> None:
     trial = Trial(program, folder)
     for closed in ("<&-", ">&-", "2>&-", "<&- >&- 2>&-"):
         for setting in ({}, {"PYTHONUNBUFFERED": "1"}):
-            shell = ("sh", "-c", f'exec "$@" {closed}', "sh", *trial.command())
+            shell = ("sh", "-c", f'exec "$@" {closed}', "sh", *trial.usual_command("--all-faults"))
             with open(folder / "said", "wb") as said:
                 expect(closed, subprocess.run(shell, stderr=said, env={**os.environ, **setting}).returncode, 1)
-            trial.expect_results({"07.warc": 1}, trial.wanted)
+            expect("index", trial.index.read_bytes() == trial.wanted, True)
+            trial.expect_store()
             trial.remove_results()
 
 
@@ -82,13 +89,13 @@ def memory_may_be_refused(program: pathlib.Path, folder: pathlib.Path) -> None:
         statuses.add(done.returncode)
         expect(f"status with {megabytes} MB", done.returncode in (1, 3), True)
         expect(f"lines with {megabytes} MB", b"Traceback" in done.stderr, False)
-        expect("unfinished files", list(trial.parts.glob("*-*")), [])
+        expect("unfinished files", unfinished(trial), [])
     expect("statuses", statuses, {1, 3})
     expect("status", trial.run(), 1)
     trial.expect_results({"07.warc": 1}, trial.wanted)
 
 
-def an_archive_that_cannot_be_read_keeps_its_part(program: pathlib.Path, folder: pathlib.Path) -> None:
+def an_archive_that_cannot_be_read_keeps_its_captures(program: pathlib.Path, folder: pathlib.Path) -> None:
     trial = Trial(program, folder)
     expect("status", trial.run(), 1)
     (trial.archives / "05.warc").unlink()
@@ -102,51 +109,37 @@ def an_archive_that_cannot_be_read_keeps_its_part(program: pathlib.Path, folder:
     expect("action", trial.reports["05.warc"]["action"], "removed")
 
 
-def parts_that_are_damaged_leave_the_index(program: pathlib.Path, folder: pathlib.Path) -> None:
-    """`warcdx check` doesn't accept an index of a part that something else has changed."""
+def runs_that_are_damaged_are_made_anew(program: pathlib.Path, folder: pathlib.Path) -> None:
+    """One that is missing, or was written by something else. If only its time is that of the run, the index stays as it was."""
     trial = Trial(program, folder)
-    expect("status", trial.run(), 1)
-    part = next(path for path in trial.parts.iterdir() if not path.suffix and path.stat().st_size > 1000)
-    part.write_bytes(bytes(part.stat().st_size))
-    copy_sample("response", trial.archives / "new.warc")
-    expect("status", trial.run(), 3)
-    expect("index", trial.index.read_bytes() == trial.wanted, True)
-    part.unlink()
-    expect("status without the part", trial.run(), 1)
-    trial.expect_results({"07.warc": 1}, trial.index_of("*.warc"))
+    expect("status", trial.run("--compact"), 1)
+    (run,) = trial.runs
 
+    def removed() -> None:
+        run.unlink()
 
-def counts_that_are_damaged_are_made_anew(program: pathlib.Path, folder: pathlib.Path) -> None:
-    """The run that finds them leaves the index as it was, and the next one indexes the archive of the part."""
-    trial = Trial(program, folder)
-    expect("status", trial.run(), 1)
-    made = trial.parts / "made.jsonl"
-    for text in ("", "[]", "{", '{"captures": "1"}', made.read_text()[:40], "\0" * 100, "[" * 100_000):
-        counts = next(path for path in trial.parts.iterdir() if len(path.name) == 37)
-        counts.write_text(text)
-        made.write_text(text)
+    def written() -> None:
+        run.write_bytes(bytes(run.stat().st_size))
+
+    def cut() -> None:
+        usual = run.stat().st_mtime_ns
+        run.write_bytes(run.read_bytes()[:1000])
+        os.utime(run, ns=(usual, usual))
+
+    for change in (removed, written, cut):
+        change()
         trial.forget()
-        expect("status", trial.run(), 3)
-        damage = f"{counts.name} in {trial.parts.name} is damaged; the next update indexes its archive anew"
-        expect("line", trial.said[-1], f"warcdx-update: {trial.index}: {damage}; the index stays as it was")
-        expect("index", trial.index.read_bytes() == trial.wanted, True)
-        expect("archives", trial.begun, [])
-        expect("status of the next run", trial.run(), 1)
-        expect("archives of the next run", len(trial.begun), 1)
+        expect(f"status if it was {change.__name__}", trial.run("--compact"), 1)
+        expect("archives", len(trial.begun), 12)
         trial.expect_results({"07.warc": 1}, trial.wanted)
-
-
-def a_report_replaces_no_other_file(program: pathlib.Path, folder: pathlib.Path) -> None:
-    trial = Trial(program, folder)
-    expect("status", trial.run(), 1)
-    archive = trial.archives / "05.warc"
-    for path, why in (
-        (trial.index, f"{trial.index} belongs to the index, and can't be its report"),
-        (archive, f"no earlier run has made {archive} as its report, and it isn't replaced"),
-    ):
-        before = path.read_bytes()
-        expect("status", trial.run("--report", path), 3)
-        expect("line", trial.said, [f"warcdx-update: {trial.index}: {why}"])
-        expect("file", path.read_bytes() == before, True)
-    expect("status over a report", trial.run(), 1)
-    trial.expect_results({"07.warc": 1}, trial.wanted)
+        (run,) = trial.runs
+    usual = run.stat().st_mtime_ns
+    written()
+    os.utime(run, ns=(usual, usual))
+    copy_sample("response", trial.archives / "new.warc")
+    expect("status", trial.run("--compact"), 3)
+    expect("line", trial.said[-1].endswith("BadLine 0; the index stays as it was"), True)
+    expect("index", trial.index.read_bytes() == trial.wanted, True)
+    run.unlink()
+    expect("status without the run", trial.run(), 1)
+    trial.expect_results({"07.warc": 1}, trial.index_of("*.warc"))

@@ -7,7 +7,7 @@ import signal
 import subprocess
 
 from update_trial import (
-    SLOW, WAIT, Trial, children_of, compressed, copy_sample, expect, index_of_folders, kill_group, sample, until, until_unlocked
+    SLOW, WAIT, Trial, children_of, compressed, copy_sample, expect, index_of_folders, kill_group, sample, until
 )
 
 # A module that Python loads first. It kills the process before the call of the number KILL_AT that changes a name, or writes one to the disk.
@@ -28,7 +28,7 @@ def killing(usual):
     return call
 
 
-for name in ("chmod", "fsync", "mkdir", "remove", "rename", "replace", "rmdir"):
+for name in ("chmod", "fsync", "mkdir", "remove", "rename", "replace", "rmdir", "symlink"):
     setattr(os, name, killing(getattr(os, name)))
 """
 KILLS = 50
@@ -61,7 +61,6 @@ def runs_that_are_killed_lose_nothing(program: pathlib.Path, folder: pathlib.Pat
         work.wait(WAIT)
         for child in children:
             until("the end of the programs", lambda: not os.path.exists(f"/proc/{child}"))
-        until_unlocked(trial)
         found = trial.index.read_bytes() if trial.index.exists() else None
         expect(f"index after kill {number}", found in (before, wanted), True)
         status = trial.run(*words)
@@ -125,13 +124,13 @@ def a_run_may_be_killed_before_each_change(program: pathlib.Path, folder: pathli
 
 
 def programs_end_with_a_run_that_is_killed(program: pathlib.Path, folder: pathlib.Path) -> None:
-    """Nothing but the run is killed. Its programs would go on for longer than is waited."""
+    """Nothing but the run is killed. Its programs would go on for longer than is waited. One of them has all small archives."""
     trial = Trial(program, folder, SLOW.replace("sleep 0.5", f"exec sleep {10 * WAIT}"))
     (trial.archives / "packed.warc.gz").write_bytes(compressed(sample("response")))
     work = trial.start("--jobs", "20")
-    until("the programs", lambda: len(trial.begun) == 13)
+    until("the programs", lambda: len(trial.begun) == 6)
     processes = children_of(work.pid)
-    expect("number of the programs", len(processes), 13)
+    expect("number of the programs", len(processes), 6)
     work.kill()
     work.wait()
     try:
@@ -141,7 +140,6 @@ def programs_end_with_a_run_that_is_killed(program: pathlib.Path, folder: pathli
         for process in processes:
             with contextlib.suppress(ProcessLookupError):
                 os.kill(int(process), signal.SIGKILL)
-    until_unlocked(trial)
     trial.program.write_text(trial.program.read_text().replace("exec sleep", ": "))
     expect("status", trial.run(), 1)
 

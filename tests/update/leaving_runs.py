@@ -1,5 +1,4 @@
 """Runs of warcdx-update whose archives are gone or can't be seen, or that have another folder or other options than the first."""
-import json
 import os
 import pathlib
 import shutil
@@ -75,7 +74,7 @@ def archives_that_are_gone_keep_their_captures(program: pathlib.Path, folder: pa
         trial.expect_results({"07.warc": 1, **dict.fromkeys(gone, 3)}, wanted)
         reports = trial.reports
         expect("actions", {(reports[name]["action"], reports[name]["message"]) for name in gone}, {("kept", "it is gone")})
-        expect("gone", json.loads((folder / "all.cdxj.summary.json").read_text())["gone"], 3)
+        expect("gone", trial.summary["gone"], 3)
         trial.forget()
         identity = os.stat(trial.index)
         expect("status of a run without changes", trial.run(*words), 3)
@@ -114,13 +113,12 @@ def a_disk_that_is_not_mounted_changes_nothing(program: pathlib.Path, folder: pa
             os.rename(place, folder / "unmounted")
             if is_empty:
                 place.mkdir()
-            own = [path for path in trial.parts.iterdir() if len(path.name.partition(".")[0]) == 32]
-            parts = {path: path.read_bytes() for path in (trial.parts / "log.jsonl", trial.parts / "settings.json", *own)}
+            runs = {path: path.read_bytes() for path in trial.runs}
             identity = trial.index.stat()
             for words in (("--quiet",), ("--quiet", "--remove", "0")):
                 expect("status", updated(trial, trial.archives, trial.index, "--recursive", *words), 3)
                 expect("index", trial.index.stat(), identity)
-                expect("parts", {path: path.read_bytes() for path in parts} == parts, True)
+                expect("runs", {path: path.read_bytes() for path in trial.runs} == runs, True)
             if is_empty:
                 place.rmdir()
             os.rename(folder / "unmounted", place)
@@ -152,6 +150,12 @@ def another_folder_or_option_is_refused(program: pathlib.Path, folder: pathlib.P
                 done = subprocess.run(command, stderr=subprocess.PIPE, text=True, timeout=WAIT)
                 expect(f"status with {archives.name} {words} {more}", done.returncode, 3)
                 expect("line", (line in done.stderr, done.stderr.count("\n")), (True, 1))
+    latin = folder / os.fsdecode(b"latin-\xe9")
+    shutil.copytree(other, latin)
+    (folder / "latin").symlink_to(latin)
+    for status in (1, 0):
+        expect("status with a folder that isn't UTF-8", updated(trial, folder / "latin", folder / "latin.d"), status)
+    expect("status with another folder", updated(trial, other, folder / "latin.d"), 3)
     copy_sample("wget", trial.archives / "new.warc")
     here = os.path.relpath(trial.archives)
     for name in (folder / "link", folder / "link/.", folder / "other/../archives", here, f"{trial.archives}/"):
@@ -161,7 +165,7 @@ def another_folder_or_option_is_refused(program: pathlib.Path, folder: pathlib.P
     trial.remove_results()
     expect("status", trial.run("--recursive", "--types", "metadata"), 1)
     expect("index", trial.index.read_bytes() == typed(program, trial, "metadata"), True)
-    with unchanged(trial.parts):
+    with unchanged(trial.store):
         expect("status without --recursive", trial.run("--types", "metadata"), 3)
 
 
@@ -198,14 +202,14 @@ def a_folder_that_cannot_be_listed_ends_the_run(program: pathlib.Path, folder: p
         for after in range(4):
             environment = {**failing, "FAILING": "archives", "AFTER": str(after)}
             expect("status of a first run", trial.start("--recursive", env=environment).wait(WAIT), 3)
-            expect("what is made", (trial.parts.exists(), trial.index.exists()), (False, False))
+            expect("what is made", (trial.store.exists(), trial.index.exists()), (False, False))
     expect("status", trial.run("--recursive"), 1)
     before = trial.index.read_bytes()
     copy_sample("response", trial.archives / "new.warc")
     for after in range(8):
         environment = {**failing, "FAILING": "archives", "AFTER": str(after)}
         for words in ((), ("--remove", "all"), ("--dry-run", "--remove", "all")):
-            with unchanged(trial.archives, trial.parts):
+            with unchanged(trial.archives, trial.store):
                 expect("status", trial.start("--recursive", *words, env=environment).wait(WAIT), 3)
                 expect("lines", [line.endswith("Input/output error") for line in trial.said], [True])
                 expect("index", trial.index.read_bytes() == before, True)
@@ -224,32 +228,40 @@ def sample_captures(program: pathlib.Path, name: str) -> int:
     return subprocess.run((program, "index", ROOT / f"samples/{name}.warc"), stdout=subprocess.PIPE, check=True).stdout.count(b"\n")
 
 
-def a_part_that_is_missing_loses_no_captures(program: pathlib.Path, folder: pathlib.Path) -> None:
-    """If its archive can't be indexed, the index stays as it was. So it does if the log has lost a line."""
+def a_run_that_is_missing_loses_no_captures(program: pathlib.Path, folder: pathlib.Path) -> None:
+    """If an archive of it is gone, the index stays as it was. So it does without the database, or if that has lost an archive."""
     trial = Trial(program, folder)
-    expect("status", trial.run(), 1)
-    log = trial.parts / "log.jsonl"
-    lines = {part[0]: part[4] for part in trial.logged}
-    kept = folder / "02.warc"
+    expect("status", trial.run("--compact"), 1)
+    kept, whole = folder / "02.warc", folder / "whole"
     os.rename(trial.archives / "02.warc", kept)
     copy_sample("wget", trial.archives / "new.warc")
+    (run,) = trial.runs
+    shutil.copytree(trial.store, whole, symlinks=True)
+    database = trial.store / "state.db"
 
-    def without_part() -> None:
-        (trial.parts / lines["02.warc"]).unlink()
+    def without_run() -> None:
+        run.unlink()
 
-    def without_line() -> None:
-        log.write_text("".join(line + "\n" for line in log.read_text().splitlines() if "02.warc" not in line))
+    def without_database() -> None:
+        database.unlink()
 
-    def without_log() -> None:
-        log.unlink()
+    def with_an_empty_database() -> None:
+        database.write_bytes(b"")
 
-    for change in (without_part, without_line, without_log):
+    way_out = "restore it from a backup, or move the index away and make it anew"
+    for change, line in (
+        (without_run, "1 archives can't be indexed anew whose runs are missing or damaged, such as '02.warc'; the index stays as it was"),
+        (without_database, f"{database} is missing; {way_out}"),
+        (with_an_empty_database, f"{database} isn't as warcdx-update has written it; {way_out}"),
+    ):
         change()
         before = trial.index.read_bytes()
         expect(f"status {change.__name__}", trial.run(), 3)
-        line = "1 parts are missing or damaged and can't be made anew, such as of '02.warc'; the index stays as it was"
         expect("line", trial.said[-1], f"warcdx-update: {trial.index}: {line}")
         expect("index", trial.index.read_bytes() == before, True)
+        shutil.rmtree(trial.store)
+        shutil.copytree(whole, trial.store, symlinks=True)
+    run.unlink()
     os.rename(kept, trial.archives / "02.warc")
     expect("status with the archive", trial.run(), 1)
     expect("index", trial.index.read_bytes() == trial.index_of("*.warc"), True)
@@ -286,6 +298,6 @@ CASES = (
     another_folder_or_option_is_refused,
     arguments_are_checked,
     a_folder_that_cannot_be_listed_ends_the_run,
-    a_part_that_is_missing_loses_no_captures,
+    a_run_that_is_missing_loses_no_captures,
     folders_may_be_deep,
 )

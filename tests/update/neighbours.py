@@ -5,20 +5,21 @@ import pathlib
 import shutil
 import signal
 import socket
+import sqlite3
 import stat
 import subprocess
 import uuid
 from collections.abc import Callable, Iterable, Iterator
 
-from update_trial import SLOW, WAIT, Trial, copy_sample, expect, kill_group, sample, until, until_unlocked
+from update_trial import SLOW, WAIT, Trial, copy_sample, expect, kill_group, sample, until
 
 State = tuple[object, ...]
 # Names that the command or an earlier state of it might use.
 NAMES = (
     "thesis.txt", "lock.new", "log.new", "log.jsonl.new", "made.json", "made.json.new", "unfinished", "removed", "merged", "new",
     "all.cdxj.new", "all.cdxj.summary.json.new", ".all.cdxj.new", ".warcdx.index", ".warcdx-.index", "removed-", "unfinished-", "new-",
-    "d41d8cd98f00b204e9800998ecf8427e", "d41d8cd98f00b204e9800998ecf8427e.json", f"unfinished-{uuid.UUID(int=7).hex}",
-    f"removed-{uuid.UUID(int=7).hex}", f"new-{uuid.UUID(int=7).hex}", f".warcdx-{uuid.UUID(int=7).hex}.index",
+    "state", "state.db.new", "current.new", "manifest.json", "summary.json", "000001", "1", "0", "000001.cdxj.old", "900000.new",
+    "900000.cdxj", "900000", f".warcdx-{uuid.UUID(int=7).hex}", "000001.CDXJ", "000001.new.old", "00001.new",
 )  # fmt: skip
 
 
@@ -103,23 +104,25 @@ class Home:
         self.trial = Trial(program, folder, script.replace("sleep 0.5", "sleep 0.05"))
         self.home = folder / "home"
         self.home.mkdir()
-        self.trial.index, self.trial.parts = self.home / "all.cdxj", self.home / "all.cdxj.parts"
+        self.trial.index, self.trial.store = self.home / "all.cdxj", self.home / "all.cdxj.d"
 
     @property
     def own(self) -> set[str]:
-        """The names that the command gives in the folder of parts."""
-        logged = (self.trial.parts / "log.jsonl").read_text().split('"')
-        parts = {word for word in logged if len(word) == 32}
-        return {"lock", "settings.json", "log.jsonl", "made.jsonl", "results.json", "faults.json", *parts, *(f"{part}.json" for part in parts)}
+        """The names that the command gives in the folder of the index."""
+        (last, state), = self.trial.ask("SELECT last, state FROM settings")
+        runs = {f"runs/{number:06}.{ending}" for number in range(last + 1) for ending in ("cdxj", "new")}
+        states = {f"states/{number}" for number in range(state + 1)}
+        within = {f"{each}/{name}" for each in states for name in ("manifest.json", "summary.json", *(run[5:] for run in runs))}
+        return {"state.db", "state.db-journal", "current", "runs", "states", *runs, *states, *within}
 
     def states(self) -> dict[str, State]:
         """Returns what others have in the home, in the folder of parts and behind links."""
         found = {}
-        for folder in (self.home, self.trial.parts.resolve(), *self.trial.folder.glob("behind-*")):
+        for folder in (self.home, self.trial.store.resolve(), *self.trial.folder.glob("behind-*")):
             own = self.own if folder.name != "home" and not folder.name.startswith("behind") else set()
             for name, state in states(folder).items():
                 top = name.split("/")[0]
-                if name != "." and top not in own and not top.startswith("all.cdxj.parts") and top not in ("all.cdxj", "all.cdxj.summary.json"):
+                if name != "." and name not in own and not top.startswith("all.cdxj.d") and top != "all.cdxj":
                     found[f"{folder}/{name}"] = state
         return found
 
@@ -131,7 +134,7 @@ def every_run_leaves_what_others_have(program: pathlib.Path, folder: pathlib.Pat
     trial = home.trial
     put_others(home.home)
     expect("status of the first run", trial.run(), 1)
-    put_others(trial.parts)
+    put_others(trial.store)
     before = home.states()
     expect("number of what others have", len(before) > 2 * len(NAMES), True)
 
@@ -148,7 +151,6 @@ def every_run_leaves_what_others_have(program: pathlib.Path, folder: pathlib.Pat
         until("archives", lambda: len(trial.begun) > 3)
         kill_group(work, number)
         ended = work.wait(WAIT)
-        until_unlocked(trial)
         return ended
 
     copy_sample("response", trial.archives / "new.warc")
@@ -175,7 +177,7 @@ def other_folders_of_parts_are_refused(program: pathlib.Path, folder: pathlib.Pa
     trial = home.trial
     expect("status", trial.run(), 1)
     made = folder / "made"
-    shutil.copytree(trial.parts, made)
+    shutil.copytree(trial.store, made)
     trial.remove_results()
     disk = folder / "disk"
 
@@ -187,20 +189,24 @@ def other_folders_of_parts_are_refused(program: pathlib.Path, folder: pathlib.Pa
 
     def of_an_earlier_state(parts: pathlib.Path) -> None:
         shutil.copytree(made, parts, dirs_exist_ok=True)
-        (parts / "settings.json").unlink()
+        (parts / "state.db").unlink()
 
     def of_another_version(parts: pathlib.Path) -> None:
         shutil.copytree(made, parts, dirs_exist_ok=True)
-        settings = parts / "settings.json"
-        settings.write_text(settings.read_text().replace('"form": 1', '"form": 2'))
+        with contextlib.closing(sqlite3.connect(parts / "state.db")) as database:
+            database.execute("PRAGMA user_version = 2")
+
+    def with_another_database(parts: pathlib.Path) -> None:
+        with contextlib.closing(sqlite3.connect(parts / "state.db")) as database:
+            database.execute("CREATE TABLE mine (text TEXT)")
 
     def with_a_folder(name: str) -> Callable[[pathlib.Path], None]:
         return lambda parts: (parts / name).mkdir()
 
     fillings = (
-        with_files, with_one("thesis.txt"), with_one("lock", "1"), with_one("settings.json", "{}"), with_one("log.jsonl"),
-        with_one(".hidden"), with_one("d41d8cd98f00b204e9800998ecf8427e"), with_a_folder("lock"), with_a_folder("settings.json"),
-        with_a_folder("unfinished"), of_an_earlier_state, of_another_version,
+        with_files, with_one("thesis.txt"), with_one("state.db", "mine\n"), with_one("current"), with_one("000001.cdxj"),
+        with_one(".hidden"), with_one("state.db-wal"), with_a_folder("state.db"), with_a_folder("runs"), with_a_folder("states"),
+        of_an_earlier_state, of_another_version, with_another_database,
     )  # fmt: skip
     for filling in fillings:
         for is_link in (False, True):
@@ -208,22 +214,69 @@ def other_folders_of_parts_are_refused(program: pathlib.Path, folder: pathlib.Pa
             (disk / "parts").mkdir()
             filling(disk / "parts")
             if is_link:
-                trial.parts.symlink_to(disk / "parts")
+                trial.store.symlink_to(disk / "parts")
             else:
-                shutil.copytree(disk / "parts", trial.parts, symlinks=True, copy_function=_copy)
+                shutil.copytree(disk / "parts", trial.store, symlinks=True, copy_function=_copy)
             with unchanged(folder / "home", disk, trial.archives):
                 expect(f"status with {filling}", trial.run(), 3)
                 expect("lines", (len(trial.said), "Traceback" in trial.said[0]), (1, False))
             shutil.rmtree(disk)
-            trial.parts.unlink() if is_link else shutil.rmtree(trial.parts)
-    trial.parts.symlink_to(folder / "not mounted")
+            trial.store.unlink() if is_link else shutil.rmtree(trial.store)
+    trial.store.symlink_to(folder / "not mounted")
     with unchanged(folder / "home", trial.archives):
         expect("status with a link that leads to nothing", trial.run(), 3)
-    trial.parts.unlink()
-    trial.parts.mkdir()
-    (trial.parts / "lock").touch()
+    trial.store.unlink()
+    trial.store.mkdir()
+    (trial.store / "state.db").touch()  # as of a run that was ended before it wrote it
     expect("status with an empty folder", trial.run(), 1)
     expect("index", trial.index.read_bytes() == trial.wanted, True)
+
+
+def a_database_that_others_have_changed_is_refused(program: pathlib.Path, folder: pathlib.Path) -> None:
+    """So it is if its tables are others, or values aren't of their types because the conditions were ignored."""
+    trial = Trial(program, folder)
+    expect("status", trial.run(), 1)
+    database, whole = trial.store / "state.db", folder / "whole"
+    shutil.copytree(trial.store, whole, symlinks=True)
+    copy_sample("response", trial.archives / "new.warc")
+    values = {
+        "settings": {
+            "folder": ("NULL", "x'ff'"), "recursive": ("NULL", "'x'"), "types": ("x'00'", "NULL"), "token": ("x'00'", "NULL"),
+            "last": ("'x'", "-1", "1.5", "9223372036854775807"), "state": ("'abc'", "NULL", "-3"), "changed": ("NULL", "'x'"),
+            "summary": ("NULL", "'['", "'[1]'", "'7'", "x'7b7d'", f"'{'[' * 99_999}'"),
+        },
+        "runs": {"number": ("-1",), "size": ("NULL", "'x'"), "mtime": ("NULL",), "captures": ("NULL", "'x'"), "since": ("'x'",)},
+        "archives": {
+            "name": ("x'61'", "NULL", "CAST(x'ff' AS TEXT)"), "size": ("'x'",), "mtime": ("NULL",), "ctime": ("NULL",), "inode": ("NULL",),
+            "cause": ("NULL", "x'00'"), "captures": ("'many'", "NULL"), "run": ("'x'",),
+        },
+        "counts": {"run": ("'x'",), "field": ("x'00'",), "value": ("x'ff'",), "captures": ("'x'",)},
+        "faults": {"archive": ("NULL",), "message": ("NULL", "x'00'")},
+        "files": {"size": ("'x'",), "inode": ("NULL",), "state": ("NULL", "'x'")},
+    }  # fmt: skip
+    keys = {"counts": "(run, field, value)"}
+    statements = [
+        "UPDATE {0} SET {1} = {2} WHERE {3} IN (SELECT {4} FROM {0} LIMIT 1)".format(
+            table, column, value, (key := keys.get(table, "rowid")), key.strip("()")
+        )
+        for table, columns in values.items() for column, each in columns.items() for value in each
+    ]
+    statements += [
+        "DELETE FROM settings", "INSERT INTO settings SELECT * FROM settings", "DROP TABLE archives", "ALTER TABLE runs ADD COLUMN more",
+        "CREATE TABLE mine (text)", "CREATE TRIGGER mine AFTER UPDATE ON settings BEGIN DELETE FROM archives; END",
+    ]
+    for statement in statements:
+        with contextlib.closing(sqlite3.connect(database, isolation_level=None)) as connected:
+            connected.execute("PRAGMA ignore_check_constraints = ON")
+            connected.execute(statement)
+        before = trial.index.read_bytes()
+        expect(f"status after {statement:.80}", trial.run(), 3)
+        expect(f"line after {statement:.80}", [line for line in trial.said if str(database) in line][-1:] == trial.said[-1:], True)
+        expect(f"index after {statement:.80}", trial.index.read_bytes() == before, True)
+        shutil.rmtree(trial.store)
+        shutil.copytree(whole, trial.store, symlinks=True)
+    expect("status with the database", trial.run(), 1)
+    expect("index", trial.index.read_bytes() == trial.index_of("*.warc"), True)
 
 
 def _ignore(_: object) -> None: ...
@@ -237,10 +290,40 @@ def _copy(source: str, target: str) -> str:
     return target
 
 
+def what_others_have_is_named(program: pathlib.Path, folder: pathlib.Path) -> None:
+    """Something else at the place of a link to a state, and a folder that may only be read."""
+    trial = Trial(program, folder)
+    expect("status", trial.run(), 1)
+    for name in ("current", "states/current"):
+        path, kept = trial.store / name, trial.store / "kept"
+        if path.is_symlink():
+            path.rename(kept)
+        path.write_text("mine\n")
+        expect(f"status with {name}", trial.run(), 3)
+        expect("lines", trial.said, [f"warcdx-update: {trial.index}: warcdx-update hasn't made {path}, and doesn't replace it"])
+        path.unlink()
+        if kept.is_symlink():
+            kept.rename(path)
+    if os.geteuid():
+        print("skipped  a folder that may only be read: only root can run the command as another user")
+        return
+    folder.chmod(0o755)
+    done = subprocess.run(trial.usual_command("--quiet"), stderr=subprocess.PIPE, user=65534, group=65534, extra_groups=(), timeout=WAIT)
+    expect("line of a folder that may only be read", done.stderr.decode(), f"warcdx-update: {trial.store / 'state.db'}: Permission denied\n")
+
+
+def a_slash_after_index_makes_a_folder(program: pathlib.Path, folder: pathlib.Path) -> None:
+    trial = Trial(program, folder)
+    for _ in range(2):
+        expect("status", updated(trial, trial.archives, f"{folder / 'new'}/", "--all-faults"), 1)
+    expect("manifest", (folder / "new/current/manifest.json").is_file(), True)
+    expect("a folder beside it", (folder / "new.d").exists(), False)
+
+
 def archives_and_parts_are_apart(program: pathlib.Path, folder: pathlib.Path) -> None:
     """FOLDER isn't in the folder of parts, by whatever name, and with --recursive the folder of parts isn't in FOLDER."""
     trial = Trial(program, folder)
-    crawl = folder / "crawl.parts"
+    crawl = folder / "crawl.d"
     (crawl / "below").mkdir(parents=True)
     for place in (crawl, crawl / "below"):
         copy_sample("response", place / "a.warc")
@@ -248,11 +331,11 @@ def archives_and_parts_are_apart(program: pathlib.Path, folder: pathlib.Path) ->
     links.mkdir()
     (links / "crawl").symlink_to(crawl)
     (links / "home").symlink_to(folder)
-    (folder / "all.parts").symlink_to(crawl)
+    (folder / "all.d").symlink_to(crawl)
     pairs = (
         (crawl, folder / "crawl"), (crawl / "below", folder / "crawl"), (links / "crawl", folder / "crawl"),
-        (crawl, folder / "all"), (links / "crawl/below", folder / "all"), (links / "crawl/../crawl.parts", links / "home/crawl"),
-        (folder / "archives/../crawl.parts/below/..", folder / "crawl"),
+        (crawl, folder / "all"), (links / "crawl/below", folder / "all"), (links / "crawl/../crawl.d", links / "home/crawl"),
+        (folder / "archives/../crawl.d/below/..", folder / "crawl"), (crawl / "below", crawl), (crawl, folder / "all.d"),
     )  # fmt: skip
     for archives, index in pairs:
         for words in ((), ("--recursive",)):
@@ -306,13 +389,13 @@ def links_are_taken_where_they_lead(program: pathlib.Path, folder: pathlib.Path)
         (disk / "parts").mkdir()
         put_others(disk)
         put_others(other)
-        (other / "all.cdxj.parts").symlink_to(disk / "parts")
+        (other / "all.cdxj.d").symlink_to(disk / "parts")
         trial.index.symlink_to(other / "all.cdxj")
         before = {**states(disk), **{f"other/{name}": state for name, state in states(other).items()}}
 
         def expect_others() -> None:
             found = {**states(disk), **{f"other/{name}": state for name, state in states(other).items()}}
-            own = ("parts", "other/all.cdxj", "other/all.cdxj.summary.json", "other/.")
+            own = ("parts", "other/all.cdxj", "other/.")
             wanted = {name: state for name, state in before.items() if not name.startswith("parts") and name not in own}
             found = {name: state for name, state in found.items() if not name.startswith("parts") and name not in own}
             expect_same("what others have", found, wanted)
@@ -323,7 +406,7 @@ def links_are_taken_where_they_lead(program: pathlib.Path, folder: pathlib.Path)
             expect_others()
             expect("index", (other / "all.cdxj").read_bytes() == trial.index_of("*.warc"), True)
             expect("whether INDEX is a link", (trial.index.is_symlink(), (other / "all.cdxj").is_symlink()), (True, False))
-            expect("whether the parts are behind the link", (disk / "parts/settings.json").is_file(), True)
+            expect("whether the parts are behind the link", (disk / "parts/state.db").is_file(), True)
     finally:
         if is_mounted:
             subprocess.run(("umount", disk), check=True)
@@ -332,6 +415,9 @@ def links_are_taken_where_they_lead(program: pathlib.Path, folder: pathlib.Path)
 CASES = (
     every_run_leaves_what_others_have,
     other_folders_of_parts_are_refused,
+    a_database_that_others_have_changed_is_refused,
+    what_others_have_is_named,
+    a_slash_after_index_makes_a_folder,
     archives_and_parts_are_apart,
     an_index_may_be_beside_its_archives,
     links_are_taken_where_they_lead,

@@ -1,5 +1,4 @@
 """Which archives warcdx-update reads again, which faults it reports, and what it says that it passes over."""
-import json
 import os
 import pathlib
 import shutil
@@ -7,7 +6,7 @@ import signal
 import subprocess
 
 from neighbours import updated
-from update_trial import SLOW, WAIT, Trial, compressed, copy_sample, expect, sample, until, until_unlocked
+from update_trial import SLOW, WAIT, Trial, compressed, copy_sample, expect, merged, sample, until
 
 
 def a_restored_archive_is_read_again(program: pathlib.Path, folder: pathlib.Path) -> None:
@@ -45,21 +44,18 @@ def a_fault_is_reported_once(program: pathlib.Path, folder: pathlib.Path) -> Non
     """So is an archive that can't be read. Another fault of the same archive is a new one, and so is one that was mended meanwhile."""
     trial = Trial(program, folder)
     (trial.archives / "unread.warc").symlink_to("nothing")
-    summary = folder / "all.cdxj.summary.json"
     lines = {
         "damaged": "warcdx-update: 07.warc: fault 448 ShortBlock",
         "unread": "warcdx-update: unread.warc: No such file or directory; left out",
         "other": "warcdx-update: 07.warc: fault 0 Version",
     }
-    report = folder / "report"
-
     def ends(name: str, status: int, *words: object, said: tuple[str, ...] = ()) -> None:
-        expect(f"status of {name}", trial.run_usually("--quiet", "--report", report, *words), status)
+        expect(f"status of {name}", trial.run_usually("--quiet", "--report", *words), status)
         expect(f"lines of {name}", trial.said, [lines[each] for each in said])
 
     def expect_faults(name: str, wanted: dict[str, int]) -> None:
         expect(f"report of {name}", {archive: each["status"] for archive, each in trial.reports.items() if each["status"]}, wanted)
-        values = json.loads(summary.read_text())
+        values = trial.summary
         expect(f"summary of {name}", [each["archive"] for each in values["damaged"]], [each for each, status in wanted.items() if status == 1])
         expect(f"summary of {name}", [each["archive"] for each in values["unread"]], [each for each, status in wanted.items() if status == 3])
 
@@ -93,21 +89,15 @@ def a_fault_is_reported_once(program: pathlib.Path, folder: pathlib.Path) -> Non
 
 
 def what_the_machine_lacks_is_reported_each_time(program: pathlib.Path, folder: pathlib.Path) -> None:
-    """It isn't a fault of the archive. Here the program for one archive ends as it does without memory, or can't be started."""
+    """It isn't a fault of the archive. Here the program for one archive ends as it does without memory, or is killed."""
     trial = Trial(program, folder)
     usual = trial.program.read_text()
     for said in ("echo warcdx: Memory >&2; exit 3", "kill -9 $$", "exit 7"):
         trial.remove_results()
-        trial.program.write_text(usual.replace("#!/bin/sh\n", f'#!/bin/sh\ncase $2 in */05.warc) {said};; esac\n'))
+        trial.program.write_text(usual.replace("#!/bin/sh\n", f'#!/bin/sh\ncase "$*" in *./05.warc*) {said};; esac\n'))
         for _ in range(2):
             expect(f"status with {said}", trial.run_usually("--quiet"), 3)
             expect("lines", [line.split(":")[1] for line in trial.said if "07" not in line], [" 05.warc"])
-    missing = ("--warcdx-gz", folder / "missing")
-    (trial.archives / "packed.warc.gz").write_bytes(compressed(sample("response")))
-    trial.program.write_text(usual)
-    for _ in range(2):
-        expect("status without a program", trial.run_usually("--quiet", *missing), 3)
-        expect("lines", [line for line in trial.said if "07" not in line and "No such file" in line] != [], True)
 
 
 def a_fault_is_known_once_it_was_said(program: pathlib.Path, folder: pathlib.Path) -> None:
@@ -117,7 +107,6 @@ def a_fault_is_known_once_it_was_said(program: pathlib.Path, folder: pathlib.Pat
     until("the damaged archive", lambda: "07.warc" in trial.done)
     work.send_signal(signal.SIGKILL)
     work.wait()
-    until_unlocked(trial)
     for script in ('"$@" 2> /dev/full', '"$@" 2>&-'):
         command = ("sh", "-c", script, "sh", *trial.usual_command("--quiet"))
         expect(f"status of {script}", subprocess.run(command, timeout=WAIT).returncode, 1)
@@ -129,7 +118,7 @@ def a_fault_is_known_once_it_was_said(program: pathlib.Path, folder: pathlib.Pat
 def what_is_passed_over_is_said(program: pathlib.Path, folder: pathlib.Path) -> None:
     """By endings, in the order of their numbers, and without what belongs to the index, which is in the folder here."""
     trial = Trial(program, folder)
-    trial.index, trial.parts = trial.archives / "all.cdxj", trial.archives / "all.cdxj.parts"
+    trial.index, trial.store = trial.archives / "all.cdxj", trial.archives / "all.cdxj.d"
     for name in ("a.wacz", "b.WACZ", "c.arc.gz", "README", ".DS_Store", "d.warc.zst", "a.\x1b[31m", "e.warc.gz.part", "notes.2016"):
         (trial.archives / name).touch()
     (trial.archives / "loop").symlink_to(".")
@@ -144,14 +133,12 @@ def what_is_passed_over_is_said(program: pathlib.Path, folder: pathlib.Path) -> 
     for _ in range(2):
         trial.run_usually()
         expect("lines", [each for each in trial.said if "passed" in each], [f"warcdx-update: {line}"])
-        summary = json.loads((trial.archives / "all.cdxj.summary.json").read_text())
-        expect("summary", summary["passed_over"], wanted)
+        expect("summary", trial.summary["passed_over"], wanted)
     identity = trial.index.stat()
     (trial.archives / "more.wacz").touch()
     trial.run_usually("--quiet")
     expect("lines of --quiet", trial.said, [])
-    summary = json.loads((trial.archives / "all.cdxj.summary.json").read_text())
-    expect("summary", summary["passed_over"]["endings"][".wacz"], 3)
+    expect("summary", trial.summary["passed_over"]["endings"][".wacz"], 3)
     expect("index", trial.index.stat(), identity)
     for number in range(30):
         (trial.archives / f"x.e{number:02}").touch()
@@ -194,35 +181,33 @@ def types_are_those_of_the_program(program: pathlib.Path, folder: pathlib.Path) 
 
 
 def what_is_said_of_a_failed_run_is_so(program: pathlib.Path, folder: pathlib.Path) -> None:
-    """The index stays as it was, or isn't there, or was replaced."""
+    """The index stays as it was, or isn't there."""
     trial = Trial(program, folder)
-    name = "n" * 244
+    name = "n" * 254
     path = folder / name
-    expect("status of a name that is too long for a summary", updated(trial, trial.archives, path), 3)
+    expect("status of a name that is too long for its folder", updated(trial, trial.archives, path), 3)
     expect("files", [each.name[:1] for each in folder.iterdir() if each.name.startswith(("n", "."))], [])
-    failing = folder / "failing"
-    failing.write_text(f'#!/bin/sh\ncase $1 in merge) exit 3;; esac\nexec "{program}" "$@"\n')
-    failing.chmod(0o755)
-    usual, trial.program = trial.program, failing
+    usual = trial.program.read_text()
+    failing = usual.replace("#!/bin/sh\n", "#!/bin/sh\ncase $1 in merge) exit 3;; esac\n")
+    trial.program.write_text(failing)
     expect("status", trial.run(), 3)
     expect("line", trial.said[-1].endswith("; there is no index"), True)
-    trial.program = usual
+    trial.program.write_text(usual)
     expect("status", trial.run(), 1)
     copy_sample("response", trial.archives / "new.warc")
-    trial.program = failing
+    trial.program.write_text(failing)
     before = trial.index.read_bytes()
     expect("status", trial.run(), 3)
     expect("line", trial.said[-1].endswith("; the index stays as it was"), True)
     expect("index", trial.index.read_bytes() == before, True)
-    trial.program = usual
-    # The last file that a run writes on the parts is the one about the index.
+    trial.program.write_text(usual)
     modules = folder / "modules"
     modules.mkdir()
     (modules / "sitecustomize.py").write_text(FAILING_REPLACE)
     expect("status", trial.start(env={**os.environ, "PYTHONPATH": str(modules)}).wait(WAIT), 3)
-    said = "the index was replaced, but what belongs to it wasn't; the next update replaces both"
-    expect("line", trial.said[-1], f"warcdx-update: {trial.index}: No space left on device; {said}")
-    expect("index", trial.index.read_bytes() == trial.index_of("*.warc"), True)
+    expect("line", trial.said[-1], f"warcdx-update: {trial.index}: No space left on device; the index stays as it was")
+    expect("index", trial.index.read_bytes() == before, True)
+    expect("runs", merged(program, trial.runs) == trial.index_of("*.warc"), True)
     expect("status", trial.run(), 1)
     trial.expect_results({"07.warc": 1}, trial.index_of("*.warc"))
 
@@ -234,7 +219,7 @@ usual = os.replace
 
 
 def replace(source, target, **options):
-    if str(target).endswith(("made.json", "made.jsonl")):
+    if str(target).endswith("all.cdxj"):
         raise OSError(28, "No space left on device")
     usual(source, target, **options)
 

@@ -1,12 +1,12 @@
 """A folder of archives, and runs of warcdx-update over it, for the scripts of this folder."""
 import contextlib
-import fcntl
 import gzip
 import json
 import os
 import pathlib
 import shutil
 import signal
+import sqlite3
 import subprocess
 import sys
 import time
@@ -22,22 +22,21 @@ signal.signal(signal.SIGINT, signal.default_int_handler)  # a job in the backgro
 COMMAND = ROOT / "python/bin/warcdx-update"
 WAIT = 120  # seconds for what takes a few
 RECORD_END = b"\r\n\r\n"
-# Stands in the place of both programs. Notes its parent and the archive that it begins, and then takes half a second.
+# Stands in the place of both programs. Notes its parent and each archive that it begins, and takes half a second for it.
 SLOW = """#!/bin/sh
 case $0 in *-gz) program="%(packed)s";; *) program="%(program)s";; esac
 [ "$1" = index ] || exec "$program" "$@"
-echo "$PPID ${2#./}" >> "%(folder)s/begun"
-sleep 0.5
+echo $$ >> "%(folder)s/started"
+for word; do
+    case $word in ./*) echo "$PPID ${word#./}" >> "%(folder)s/begun"; sleep 0.5;; esac
+done
 exec "$program" "$@"
 """
-FAST = SLOW.replace("sleep 0.5\n", "")
+FAST = SLOW.replace("sleep 0.5", ":")
 # Fails as on a machine that can't reach a file.
-FAILING = """#!/bin/sh
-[ "$1" = index ] || exec "%(program)s" "$@"
-echo "$PPID ${2#./}" >> "%(folder)s/begun"
-case $2 in */05.warc) echo "warcdx: $2: cannot open" >&2; exit 3;; esac
-exec "%(program)s" "$@"
-"""
+FAILING = FAST.replace(
+    " :;;", " case $word in */05.warc) echo \"warcdx: $word: cannot open\" >&2; exit 3;; esac;;"
+)
 
 
 class Differs(Exception):
@@ -93,11 +92,14 @@ def compressed(archive: bytes) -> bytes:
 
 
 class Trial:
-    """A folder with twelve archives, one of them damaged, a program, and what warcdx-update makes of them."""
+    """A folder with twelve archives, one of them damaged, a program, and what warcdx-update makes of them.
+
+    `store` is the folder of the index, and `report` what the last run has printed.
+    """
 
     def __init__(self, program: pathlib.Path, folder: pathlib.Path, script: str = FAST) -> None:
         self.folder, self.archives, self.index = folder, folder / "archives", folder / "all.cdxj"
-        self.parts = folder / "all.cdxj.parts"
+        self.store, self.report = folder / "all.cdxj.d", folder / "report"
         self.archives.mkdir()
         for number in range(12):
             name = "damaged" if number == 7 else "wget" if number % 2 else "response"
@@ -115,23 +117,23 @@ class Trial:
 
     def command(self, *words: object) -> list[str]:
         """Returns the command with these options, which reports known faults too."""
-        return self.usual_command("--all-faults", "--report", self.folder / "report", *words)
+        return self.usual_command("--all-faults", "--report", *words)
 
     def usual_command(self, *words: object) -> list[str]:
         return [*map(str, (COMMAND, "--warcdx", self.program, *words)), str(self.archives), str(self.index)]
 
     def start(self, *words: object, **options: Any) -> "subprocess.Popen[bytes]":
-        with open(self.folder / "said", "wb") as said:
-            return subprocess.Popen(self.command(*words), stdin=subprocess.DEVNULL, stderr=said, **options)
+        with open(self.folder / "said", "wb") as said, open(self.report, "wb") as report:
+            return subprocess.Popen(self.command(*words), stdin=subprocess.DEVNULL, stdout=report, stderr=said, **options)
 
     def run(self, *words: object) -> int:
         """Runs warcdx-update, and returns its exit status."""
         return self.start(*words).wait(WAIT)
 
     def run_usually(self, *words: object) -> int:
-        """Runs it without a report, and so that it reports new faults only."""
-        with open(self.folder / "said", "wb") as said:
-            return subprocess.Popen(self.usual_command(*words), stdin=subprocess.DEVNULL, stderr=said).wait(WAIT)
+        """Runs it so that it reports new faults only, and prints no report of the archives unless a word says so."""
+        with open(self.folder / "said", "wb") as said, open(self.report, "wb") as report:
+            return subprocess.Popen(self.usual_command(*words), stdin=subprocess.DEVNULL, stdout=report, stderr=said).wait(WAIT)
 
     @property
     def said(self) -> list[str]:
@@ -148,8 +150,8 @@ class Trial:
 
     def remove_results(self) -> None:
         """Removes what earlier runs have made."""
-        shutil.rmtree(self.parts, ignore_errors=True)
-        for path in (self.index, self.index.with_name(f"{self.index.name}.summary.json"), self.folder / "report"):
+        shutil.rmtree(self.store, ignore_errors=True)
+        for path in (self.index, self.report):
             path.unlink(missing_ok=True)
 
     def forget(self) -> None:
@@ -159,23 +161,29 @@ class Trial:
 
     @property
     def done(self) -> set[str]:
-        """The archives that have a part at its place, which the log has named before."""
-        with contextlib.suppress(FileNotFoundError):
-            return {part[0] for part in self.logged if self._has(part[4])}
-        return set()
-
-    def _has(self, part: str) -> bool:
-        return (self.parts / part).is_file() and (self.parts / f"{part}.json").is_file()
+        """The archives that the database has."""
+        return {name for (name,) in self.ask("SELECT name FROM archives")}
 
     @property
-    def logged(self) -> list[list[Any]]:
-        """The parts that the log has."""
-        lines = (self.parts / "log.jsonl").read_text().split("\n")[1:-1]
-        return [part for part in map(json.loads, lines) if isinstance(part, list)]
+    def runs(self) -> list[pathlib.Path]:
+        """The runs that the index has."""
+        return sorted(path.resolve() for path in (self.store / "current").glob("*.cdxj"))
+
+    @property
+    def summary(self) -> dict[str, Any]:
+        return dict(json.loads((self.store / "current/summary.json").read_text()))
+
+    def ask(self, question: str) -> list[tuple[Any, ...]]:
+        """Asks the database, also while a run has it. Returns nothing while it is being made or written."""
+        with contextlib.suppress(sqlite3.Error), contextlib.closing(
+            sqlite3.connect(f"file:{self.store}/state.db?immutable=1", uri=True)
+        ) as database:
+            return database.execute(question).fetchall()
+        return []
 
     @property
     def reports(self) -> dict[str, dict[str, Any]]:
-        return {report["archive"]: report for report in map(json.loads, (self.folder / "report").read_text().splitlines())}
+        return {report["archive"]: report for report in map(json.loads, self.report.read_text().splitlines())}
 
     def expect_results(self, faulty: dict[str, int], wanted: bytes) -> None:
         """Expects this index, these archives to be reported with these statuses, and no other file beside the index."""
@@ -184,16 +192,29 @@ class Trial:
         expect("report", {name: each["status"] for name, each in reports.items() if each["status"]}, faulty)
         captures = sum(each["captures"] for each in reports.values())
         expect("captures of the report", captures, wanted.count(b"\n"))
-        expect("captures of the summary", json.loads((self.folder / "all.cdxj.summary.json").read_text())["captures"], captures)
-        self.expect_parts()
+        expect("captures of the summary", self.summary["captures"], captures)
+        self.expect_store()
 
-    def expect_parts(self) -> None:
-        """Expects the files of the parts in the log, and no others."""
-        current = {part[0]: part[4] for part in self.logged}.values()
-        wanted = {"lock", "settings.json", "log.jsonl", "made.jsonl", "results.json", *current, *(f"{file}.json" for file in current)}
-        expect("files", {path.name for path in self.parts.iterdir()} - {"faults.json"}, wanted)
-        beside = {path.name for path in self.index.parent.iterdir() if path.name.startswith((".", self.index.name))}
-        expect("files beside the index", beside, {self.index.name, self.parts.name, f"{self.index.name}.summary.json"})
+    def expect_store(self) -> None:
+        """Expects the runs of the index to be what its one file is, and no files but those of it and of the state before."""
+        expect("runs", merged(self._built, self.runs) == self.index.read_bytes(), True)
+        (state,), = self.ask("SELECT state FROM settings")
+        expect("current", os.readlink(self.store / "current"), f"states/{state}")
+        names = names_in(self.store) - {"state.db-journal"}  # which SQLite leaves after a run that was killed
+        expect("names", names, {"current", "runs", "state.db", "states"})
+        expect("states", names_in(self.store / "states") <= {str(state), str(state - 1)}, True)
+        used = {f"{number:06}.cdxj" for (number,) in self.ask(f"SELECT number FROM runs WHERE until IS NULL OR until = {state}")}
+        expect("files", names_in(self.store / "runs") - used, set())
+        manifest = json.loads((self.store / "current/manifest.json").read_text())
+        listed = {each["file"]: each["size"] for each in manifest["runs"]}
+        expect("manifest", listed, {path.name: path.stat().st_size for path in (self.store / "current").glob("*.cdxj")})
+        expect("number of runs", len(listed) <= 40, True)
+        beside = {name for name in names_in(self.index.parent) if name.startswith((".", self.index.name))}
+        expect("files beside the index", beside, {self.index.name, self.store.name})
+
+
+def names_in(folder: pathlib.Path) -> set[str]:
+    return {path.name for path in folder.iterdir()}
 
 
 def copy_sample(name: str, path: pathlib.Path) -> None:
@@ -207,17 +228,6 @@ def children_of(pid: int) -> list[str]:
         with contextlib.suppress(OSError):
             found += path.read_text().split()
     return found
-
-
-def until_unlocked(trial: Trial) -> None:
-    """Waits until no process has the lock of the parts. What a killed run has just started has it until it runs its program."""
-    def is_free() -> bool:
-        with contextlib.suppress(BlockingIOError, FileNotFoundError), open(trial.parts / "lock") as lock:
-            fcntl.flock(lock, fcntl.LOCK_EX | fcntl.LOCK_NB)
-            return True
-        return not (trial.parts / "lock").exists()
-
-    until("the end of the killed run", is_free)
 
 
 def kill_group(process: "subprocess.Popen[bytes]", number: int) -> None:
