@@ -7,12 +7,13 @@ Runs each command on two inputs by valgrind's callgrind, and divides the differe
 start of the program isn't counted. Makes the inputs in a temporary folder (TMPDIR, 100 MB) and prints a table. The exit status is 0, or 1 if a goal is
 missed. Needs valgrind. Where there is rustc, the same is counted of the commands by hand.
 """
+import json
 import pathlib
 import re
 import subprocess
 import sys
 import tempfile
-from collections.abc import Iterator, Sequence
+from collections.abc import Callable, Iterator, Sequence
 from typing import NamedTuple, Optional
 
 from make_archives import Archive
@@ -90,18 +91,49 @@ def with_numbers(index: Input) -> Input:
     return Input([path], index.count)
 
 
+def respelled(index: Input, name: str, respell: Callable[[dict[str, str]], str]) -> Input:
+    """Writes the lines of an index with objects as another program spells them."""
+    path = index.files[0].with_suffix(f".{name}")
+    with path.open("w") as file:
+        for line in index.files[0].read_text().splitlines():
+            key, stamp, members = line.split(" ", 2)
+            print(key, stamp, respell(json.loads(members)), file=file)
+    return Input([path], index.count)
+
+
+def of_common_crawl(members: dict[str, str]) -> str:
+    """Returns an object with the members that Common Crawl adds."""
+    return json.dumps({**members, "mime-detected": members["mime"], "charset": "UTF-8", "languages": "eng"})
+
+
+def without_blanks(members: dict[str, str]) -> str:
+    return json.dumps(members, separators=(",", ":"))
+
+
+def with_an_escape(members: dict[str, str]) -> str:
+    """Returns an object with an escape in a member that nobody asks for."""
+    return json.dumps({**members, "title": "caf\u00e9"})
+
+
 def rows(folder: pathlib.Path) -> Iterator[Row]:
     archives, crawls = [archive(folder, batches) for batches in (1, 2)], [crawl(folder, captures) for captures in CAPTURES]
     one, four, many = ([indexes(folder, count, files) for count in LINES] for files in (1, 4, 1024))
     numbers = [with_numbers(index) for index in one]
+    common_crawl = [respelled(index, "common-crawl", of_common_crawl) for index in one]
+    dense = [respelled(index, "dense", without_blanks) for index in one]
+    escapes = [respelled(index, "escapes", with_an_escape) for index in one]
     yield Row("list of a file, a record of 20 kB", ["list"], *archives, 2900)
     yield Row("index of a file, a capture", ["index"], *crawls, 8200)
     yield Row("check, a line", ["check"], *one, 900)
+    yield Row("check, a line of Common Crawl", ["check"], *common_crawl, 1850)
+    yield Row("check, a line without blanks", ["check"], *dense, 2200)
+    yield Row("check, a line with numbers", ["check"], *numbers, 2150)
+    yield Row("check, a line with an escape", ["check"], *escapes, 1750)
     yield Row("merge of 4 files, a line that is read", ["merge"], *four, 1500)
     yield Row("merge of 1,024 files, a line that is read", ["merge"], *many, 1850)
-    yield Row("query of all lines as text, a line", ["query", QUERY], *one, 2100)
-    yield Row("the same as json", ["query", f"{QUERY}&output=json"], *one, 2200)
-    yield Row("the same as cdxj", ["query", f"{QUERY}&output=cdxj"], *one, 1550)
+    yield Row("query of all lines as text, a line", ["query", QUERY], *one, 1800)
+    yield Row("the same as json", ["query", f"{QUERY}&output=json"], *one, 1850)
+    yield Row("the same as cdxj", ["query", f"{QUERY}&output=cdxj"], *one, 1400)
     yield Row("query of lines with numbers, as text", ["query", QUERY], *numbers, None)
     yield Row("the same with a filter", ["query", f"{QUERY}&filter=statuscode:200"], *numbers, None)
 

@@ -152,10 +152,10 @@ def folder_sizes(program: pathlib.Path, folder: pathlib.Path) -> list[Size]:
         os.link(folder / "short.warc", archives / f"{number}.warc")
     command = COMMANDS / "warcdx-update", "--quiet", "--warcdx", program, archives, index
     subprocess.run(tuple(map(str, command)), check=True)
-    parts = sum(path.stat().st_size for path in (folder / "all.cdxj.parts").rglob("*") if path.is_file())
+    runs = sum(path.lstat().st_size for path in (folder / "all.cdxj.d").rglob("*"))
     again = processor_time(command)
     found = [
-        Size("warcdx-update: bytes of the folder of parts over those of the index", parts / index.stat().st_size, "times"),
+        Size("warcdx-update: bytes of the folder of runs over those of the index", runs / index.stat().st_size, "times"),
         Size("warcdx-update with nothing new over index of all", again / processor_time((program, "index", *archives.iterdir())), "times"),
     ]
     shutil.rmtree(archives)

@@ -2,11 +2,11 @@
 
 _warcdx_update() {
     local word=${COMP_WORDS[COMP_CWORD]} before=${COMP_WORDS[COMP_CWORD - 1]}
-    local options='--all-faults --dry-run --help --jobs --quiet --recursive --remove --report --scheduler --types --version --warcdx --warcdx-gz -h'
+    local options='--all-faults --compact --dry-run --help --jobs --quiet --ratio --recursive --remove --report --scheduler --single --types --version --warcdx -h'
     COMPREPLY=()
     case $before in
-        --jobs | --remove | --scheduler | --types) return ;;
-        --report | --warcdx | --warcdx-gz) compopt -o default && return ;;
+        --jobs | --ratio | --remove | --scheduler | --types) return ;;
+        --warcdx) compopt -o default && return ;;
     esac
     if [[ $word == -* ]]; then
         mapfile -t COMPREPLY < <(compgen -W "$options" -- "$word")

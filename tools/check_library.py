@@ -1,10 +1,10 @@
 #!/usr/bin/env python3
-"""Compares the code of docs/LIBRARY.md with the crate door_examples, which the gate proves.
+"""Compares the code of docs/developers/LIBRARY.md with the crate door_examples, which the gate proves.
 
 usage: check_library.py
 
 Each block of Rust on the page has to be in a file of the crate as it stands. The page has to have a
-block of each file but lib.rt, tests.rt, and those that docs/STATEMENT.md shows.
+block of each file but lib.rt, tests.rt, and those that docs/proof/STATEMENT.md shows.
 
 Prints a line for each block, and the counts. The exit status is 0, or 1 if a block isn't there.
 """
@@ -26,7 +26,7 @@ def main() -> int:
     report = Report()
     sources = {source.name: source.read_text() for source in sorted(ROOT.glob("crates/door_examples/src/*.rt"))}
     shown = set()
-    for block in BLOCK.findall((ROOT / "docs/LIBRARY.md").read_text()):
+    for block in BLOCK.findall((ROOT / "docs/developers/LIBRARY.md").read_text()):
         name = NAME.search(block)
         title = name[1] if name else block.splitlines()[0]
         files = [file for file, text in sources.items() if block in text]

@@ -1,11 +1,13 @@
 #!/usr/bin/env python3
-"""Compares the clauses that the tables of docs/PROVED.md name with the contracts of the calls.
+"""Compares the clauses that the tables of docs/proof/PROVED.md name with the contracts of the calls.
 
 usage: check_proved.py
 
 Each clause that a table names for a call has to be in its contract. If the tables name a clause of a
 call, they have to name all of them. A call without a clause stands for its whole contract. The row of
-the calls that have a condition for the caller has to name each call of a door that has one.
+the calls that have a condition for the caller has to name each call of a door that has one. The
+tables have to name each law, which is a public function of a file laws.rt. The calls of the table
+of wrong bodies have to exist.
 
 Prints a line for each clause, and the counts. The exit status is 0, or 1 if a call or a clause
 doesn't exist, or a clause or a condition isn't named.
@@ -14,6 +16,7 @@ import re
 import sys
 from collections import defaultdict
 from collections.abc import Iterator
+from dataclasses import dataclass, field
 from pathlib import Path
 from typing import NamedTuple, Optional
 
@@ -24,12 +27,14 @@ from program import ROOT, Report, parser_of
 OWNER = re.compile(r"(?:impl|pub trait|trait)\b(?:<.*?>)? (?:.* for )?(\w+)")
 FUNCTION = re.compile(r"\s*(?:pub(?:\(\w+\))? )?(?:safe )?fn (\w+)")
 CLAUSE = re.compile(r"\s*(ensures|requires)\s+(\w*)")
+OTHERS = {"TooLong", "url"}  # that the table of wrong bodies names
 DERIVED = ("cmp",)  # calls that a derive makes, which have no text in the sources
 
 DOORS = ("warc_core", "cdxj_core", "capture_core", "index_core", "query_core", "scan_core")
 PASSED_ON = re.compile(r"^pub use (\w+)::([^;]*);", re.MULTILINE)
 CONDITIONS = "these have a condition for the caller"
-REQUIRES = re.compile(r"\s*requires\b")
+
+LAW = re.compile(r"^pub fn (\w+)", re.MULTILINE)
 
 UNNAMED = {"ensures", "requires"}  # clauses of contracts that have one
 
@@ -44,24 +49,35 @@ class Call(NamedTuple):
     name: str
 
 
-Contracts = dict[Call, set[str]]
+@dataclass
+class Contract:
+    """The names of the clauses of a call, whether it is public, and whether it has a condition for the caller."""
+
+    clauses: set[str] = field(default_factory=set)
+    is_public: bool = False
+    has_condition: bool = False
+
+
+Contracts = dict[Call, Contract]
 
 
 def contracts() -> Contracts:
-    """Returns the clauses of each call."""
-    found: Contracts = defaultdict(set)
+    """Returns the contract of each call."""
+    found: Contracts = defaultdict(Contract)
     for source in sorted(ROOT.glob("crates/*/src/**/*.rt")):
         crate = source.relative_to(ROOT / "crates").parts[0]
-        owner, clauses = None, set()
+        owner, contract = None, Contract()
         for line in source.read_text().splitlines():
             if line.startswith("}"):
                 owner = None
             elif of := OWNER.match(line):
                 owner = of[1]
             elif function := FUNCTION.match(line):
-                clauses = found[Call(crate, owner, function[1])]
+                contract = found[Call(crate, owner, function[1])]
+                contract.is_public |= line.lstrip().startswith("pub fn ")
             elif clause := CLAUSE.match(line):
-                clauses.add(clause[2] or clause[1])
+                contract.clauses.add(clause[2] or clause[1])
+                contract.has_condition |= clause[1] == "requires"
     return found
 
 
@@ -74,36 +90,46 @@ def passed_on() -> set[tuple[str, str]]:
     return found
 
 
-def conditions() -> set[Call]:
-    """Returns the public calls that a door passes on and that have a condition for the caller."""
-    shown, found = passed_on(), set[Call]()
+def calls_of_doors(found: Contracts) -> set[Call]:
+    """Returns the public calls that a door passes on."""
+    shown = passed_on()
     types = {name for _, name in shown}
-    for source in sorted(ROOT.glob("crates/*/src/**/*.rt")):
-        crate = source.relative_to(ROOT / "crates").parts[0]
-        owner, call = None, None
-        for line in source.read_text().splitlines():
-            if line.startswith("}"):
-                owner = None
-            elif of := OWNER.match(line):
-                owner = of[1]
-            elif function := FUNCTION.match(line):
-                is_shown = owner in types if owner else (crate, function[1]) in shown
-                call = Call(crate, owner, function[1]) if is_shown and line.lstrip().startswith("pub fn ") else None
-            elif call is not None and REQUIRES.match(line):
-                found.add(call)
-    return found
+    is_shown = {call: call.owner in types if call.owner else (call.crate, call.name) in shown for call in found}
+    return {call for call, contract in found.items() if contract.is_public and is_shown[call]}
 
 
-def check_conditions(report: Report) -> None:
+def check_conditions(report: Report, found: Contracts) -> None:
     """Compares the calls that have a condition with those that a row of the page names."""
-    row = next(line for line in (ROOT / "docs/PROVED.md").read_text().splitlines() if CONDITIONS in line)
+    row = next(line for line in (ROOT / "docs/proof/PROVED.md").read_text().splitlines() if CONDITIONS in line)
     named = [pair for cell in row.strip("|").split("|")[1:] for part in cell.split(";")[1:] for pair in calls(part.partition(": ")[0])]
-    for call in sorted(conditions(), key=str):
+    for call in sorted((call for call in calls_of_doors(found) if found[call].has_condition), key=str):
         title = f"{call.crate}: {'::'.join(filter(None, (call.owner, call.name)))} has a condition"
         if any(is_meant(call, owner, name) for owner, name in named):
             report.add_ok(title)
         else:
             report.add_difference(title, "the page doesn't name it")
+
+
+def check_laws(report: Report, named: set[Call]) -> None:
+    """Looks for laws that aren't named."""
+    for path in sorted(ROOT.glob("crates/*/src/laws.rt")):
+        for law in LAW.findall(path.read_text()):
+            title = f"{path.relative_to(ROOT)}: {law}"
+            if any(call.name == law for call in named):
+                report.add_ok(title)
+            else:
+                report.add_difference(title, "the page doesn't name it")
+
+
+def check_bodies(report: Report, found: Contracts) -> None:
+    """Looks up the calls of the table of wrong bodies."""
+    known = {part for call in found for part in call} | OTHERS
+    for body in (cells[0] for first, cells in rows() if first[0] == "Body"):
+        for name in names(body):
+            if set(re.findall(r"\w+", name)) <= known:
+                report.add_ok(f"a wrong body: {name}")
+            else:
+                report.add_difference(f"a wrong body: {name}", "no such call")
 
 
 def names(cell: str) -> list[str]:
@@ -119,17 +145,22 @@ def calls(cell: str) -> Iterator[tuple[Owner, str]]:
         yield owner, name
 
 
-def promises() -> Iterator[str]:
-    """Yields the clauses' cell of each row of the tables of promises."""
-    is_promise = False
-    for line in (ROOT / "docs/PROVED.md").read_text().splitlines():
+def rows() -> Iterator[tuple[list[str], list[str]]]:
+    """Yields the cells of each row of the page's tables, behind those of its table's first row."""
+    first: list[str] = []
+    for line in (ROOT / "docs/proof/PROVED.md").read_text().splitlines():
         cells = [cell.strip() for cell in line.strip("|").split("|")]
         if not line.startswith("|"):
-            is_promise = False
-        elif cells == ["Promise", "Clauses"]:
-            is_promise = True
-        elif is_promise and "`" in cells[-1]:
-            yield cells[-1]
+            first = []
+        elif first:
+            yield first, cells
+        else:
+            first = cells
+
+
+def promises() -> Iterator[str]:
+    """Yields the clauses' cell of each row of the tables of promises."""
+    return (cells[-1] for first, cells in rows() if first[-1] == "Clauses" and "`" in cells[-1])
 
 
 def claims() -> Iterator[tuple[list[tuple[Owner, str]], list[str]]]:
@@ -150,10 +181,15 @@ def calls_meant(found: Contracts, owner: Owner, name: str) -> list[Call]:
     return [call for call in meant if call.owner == owner] or meant
 
 
-def check_claims(report: Report, found: Contracts) -> Contracts:
+def calls_named(found: Contracts) -> set[Call]:
+    """Returns the calls that the tables name."""
+    return {call for calls_of, _ in claims() for owner, name in calls_of for call in calls_meant(found, owner, name)}
+
+
+def check_claims(report: Report, found: Contracts) -> dict[Call, set[str]]:
     """Looks up each clause that is named. Returns those that are named of each call."""
     owners = {call.owner for call in found}
-    named: Contracts = defaultdict(set)
+    named: dict[Call, set[str]] = defaultdict(set)
     for calls_of, clauses in claims():
         title = ", ".join(f"{owner}::{name}" if owner else name for owner, name in calls_of)
         here: set[str] = set()
@@ -162,8 +198,8 @@ def check_claims(report: Report, found: Contracts) -> Contracts:
             if not meant and name not in owners and name not in DERIVED:
                 report.add_difference(title, f"no call {name}")
             for call in meant:
-                named[call] |= found[call].intersection(clauses)
-                here |= found[call]
+                named[call] |= found[call].clauses.intersection(clauses)
+                here |= found[call].clauses
         for clause in clauses:
             if clause in here:
                 report.add_ok(f"{title}: {clause}")
@@ -172,9 +208,9 @@ def check_claims(report: Report, found: Contracts) -> Contracts:
     return named
 
 
-def check_whole(report: Report, found: Contracts, named: Contracts) -> None:
+def check_whole(report: Report, found: Contracts, named: dict[Call, set[str]]) -> None:
     """Looks for clauses that aren't named, of calls of which another clause is. Of several calls with one name, one is meant."""
-    unnamed = {call: found[call] - clauses - UNNAMED for call, clauses in named.items() if clauses - UNNAMED}
+    unnamed = {call: found[call].clauses - clauses - UNNAMED for call, clauses in named.items() if clauses - UNNAMED}
     whole = {(call.owner, call.name) for call, clauses in unnamed.items() if not clauses}
     for call, clauses in sorted(unnamed.items(), key=str):
         for clause in sorted(clauses):
@@ -186,7 +222,9 @@ def main() -> int:
     parser_of(__doc__).parse_args()
     found, report = contracts(), Report()
     check_whole(report, found, check_claims(report, found))
-    check_conditions(report)
+    check_conditions(report, found)
+    check_laws(report, calls_named(found))
+    check_bodies(report, found)
     return report.end()
 
 

@@ -1,7 +1,7 @@
 #!/usr/bin/env bash
 # Unpacks the tar file, the Debian package and the wheel of a release, and checks what is in them.
 #
-# usage: check_release.sh [FOLDER [PROGRAM [GZ_PROGRAM]]]
+# usage: check_release.sh [--draft] [FOLDER [PROGRAM [GZ_PROGRAM]]]
 #
 # FOLDER has what `tools/release` made; the default is release/ at the top of the repository. These
 # are checked: the checksums, the modes, the files, each in the place that docs/INSTALL.md names,
@@ -13,12 +13,18 @@
 # The programs are run with an environment that has neither the Rattle kit nor this repository.
 # tools/check_package.sh installs the package. tests/cli/install.sh runs the lines of docs/INSTALL.md,
 # and tests/cli/manual.sh and tests/cli/completions.sh check the manual page and the completions.
+# A release has to name the project's address and its maintainers in CONTACT. With --draft it needn't.
 #
 # Prints a line for each check, and the counts. The exit status is 0, or 1 if a check fails. Needs
 # python3 and Debian's packages binutils, dpkg, lintian, man-db and python3-venv.
 set -euo pipefail
 source "$(dirname "$0")/../tests/program.sh"
 source "$root/tools/programs.sh"
+draft=
+if [ "${1-}" = --draft ]; then
+    draft=yes
+    shift
+fi
 read_help "$@"
 need dpkg-deb:dpkg lintian man:man-db objdump:binutils python3
 need_module ensurepip python3-venv
@@ -68,12 +74,10 @@ differing_files() { # those that differ from the file of this repository, each a
     done
 }
 
-absent_scripts() { # that the pages of the examples and samples name, and that aren't beside these pages
-    local page name
-    find "$doc"/{examples,samples} -name README.md | while read -r page; do
-        grep --only-matching --extended-regexp "\`[a-z_/]+\.(py|sh)\`" "$page" | tr --delete "\`" | while read -r name; do
-            if [ ! -f "${page%/*}/$name" ]; then echo "$name"; fi
-        done
+absent_scripts() { # that the page of the samples names, and that aren't beside it
+    local name
+    grep --only-matching --extended-regexp "\`[a-z_/]+\.(py|sh)\`" "$doc/samples/README.md" | tr --delete "\`" | while read -r name; do
+        if [ ! -f "$doc/samples/$name" ]; then echo "$name"; fi
     done
 }
 
@@ -103,7 +107,9 @@ share/bash-completion/completions/warcdx:completions/warcdx.bash
 share/zsh/site-functions/_warcdx:completions/_warcdx
 share/fish/vendor_completions.d/warcdx.fish:completions/warcdx.fish
 share/doc/warcdx/LICENSE:LICENSE
-share/doc/warcdx/README.md:README.md
+share/doc/warcdx/NOTICE:NOTICE
+share/doc/warcdx/CONTACT:CONTACT
+share/doc/warcdx/docs/FAQ.md:docs/FAQ.md
 share/doc/warcdx/docs/COMMANDS.md:docs/COMMANDS.md
 share/doc/warcdx/samples/wget.warc:samples/wget.warc
 share/doc/warcdx/gateway/bin/warcdx-gateway:gateway/bin/warcdx-gateway
@@ -115,10 +121,12 @@ share/doc/warcdx/python/warcdx/index.py:python/warcdx/index.py
 END
 )"
     expect "licence" "" "$(diff /usr/share/common-licenses/Apache-2.0 "$doc/LICENSE" 2>&1)"
+    expect "pages above 22" "" "$(find "$doc" -name "*.md" | LC_ALL=C sort | tail --lines=+23)"
+    expect "pages of the repository alone" "" "$(cd "$doc" && find CONTRIBUTING.md bench crates docs/developers docs/proof ! -path docs/proof/PROVED.md -type f 2> "$work/output")"
     expect "version in CHANGELOG.md" "## [$version]" "$(grep --only-matching --fixed-strings "## [$version]" "$doc/CHANGELOG.md")"
     mkdir "$work/recipe"
     expect "files for the recipes" "dedup.warc years.cdxj" "$(installed python3 "$doc/samples/recipe_files.py" "$work/recipe" && cd "$work/recipe" && echo *)"
-    expect "scripts that its examples name" "" "$(absent_scripts)"
+    expect "scripts that its samples name" "" "$(absent_scripts)"
     check_command "links of its pages" "$root/tools/check_links.py" "$doc"
 }
 
@@ -199,7 +207,8 @@ check_debian_package() {
         /usr/bin/python3 -c 'import importlib.metadata; print(importlib.metadata.version("warcdx"))')"
     expect "package: manual page" "" "$(zcat "$debian/usr/share/man/man1/warcdx.1.gz" | diff "$root/docs/warcdx.1" - 2>&1)"
     expect "package: completion for zsh" "" "$(diff "$root/completions/_warcdx" "$debian/usr/share/zsh/vendor-completions/_warcdx" 2>&1)"
-    expect "package: terms" "" "$(diff "$root/tools/debian/copyright" "$debian/usr/share/doc/warcdx/copyright" 2>&1)"
+    expect "package: terms" "" "$(diff "$root/tools/debian/copyright" "$debian/usr/share/doc/warcdx/copyright" 2>&1 | grep '^<')"
+    expect "package: terms of the libraries" "" "$(sed 's/^ \.\?//' "$debian/usr/share/doc/warcdx/copyright" | diff "$root/NOTICE" - | grep '^<')"
     expect "package: lintian" "" "$(lintian --allow-root --fail-on none "$package" 2>&1)"
     check_command "package: links of its pages" "$root/tools/check_links.py" "$debian/usr/share"
 }
@@ -265,10 +274,8 @@ check_planted_modules() {
     for command in "$shared"/release/bin/*; do
         expect "what ${command##*/} runs in a shared folder" "" "$(cd "$work/current" && installed "$command" --help | grep PLANTED)"
     done
-    for command in body surt_keys; do
-        expect "what $command.py runs in a shared folder" "" \
-            "$(cd "$work/current" && installed "$shared/release/share/doc/warcdx/examples/$command.py" --help | grep PLANTED)"
-    done
+    expect "what surt_keys.py runs in a shared folder" "" \
+        "$(cd "$work/current" && installed "$shared/release/share/doc/warcdx/examples/surt_keys.py" --help | grep PLANTED)"
 }
 
 copy_for_owner_alone() { # FOLDER: copies the checkout, whose files only their owner may read
@@ -295,5 +302,6 @@ check_programs
 check_debian_package
 check_wheel
 check_planted_modules
+if [ -z "$draft" ]; then check_command "the libraries in NOTICE, and the address in CONTACT" "$root/tools/check_notice.py" --contact; fi
 if [ $# -ge 2 ]; then check_same_again "${@:2}"; fi
 end_script

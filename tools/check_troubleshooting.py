@@ -5,7 +5,7 @@ usage: check_troubleshooting.py
 
 The causes are those of the modules `faults` and `refusals` of the Python package, which has all names that the
 program prints, and the names with which the gateway refuses a query. The messages are the texts with which the
-package and the examples report a failure, found in their sources; docs/CDX.md may have them instead. Usage
+package and the examples report a failure, found in their sources; docs/OTHER_TOOLS.md may have them instead. Usage
 errors and settings of the gateway are left out, because these messages say what is allowed.
 
 Prints a line for each source, and the counts. The exit status is 0, or 1 if a name or a message is missing.
@@ -73,7 +73,7 @@ def main() -> int:
     parser_of(__doc__).parse_args()
     report = Report()
     page = (ROOT / "docs/TROUBLESHOOTING.md").read_text()
-    pages = page + (ROOT / "docs/CDX.md").read_text()
+    pages = page + (ROOT / "docs/OTHER_TOOLS.md").read_text()
     names = {"faults": causes("faults"), "refusals": causes("refusals"), "the gateway": refusals_of_gateway()}
     for source, found in names.items():
         missing = [name for name in dict.fromkeys(found) if not re.search(rf"\b{name}\b", page)]

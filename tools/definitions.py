@@ -1,7 +1,7 @@
 """The contracts of the crates, and the definitions that they reach.
 
-A definition is an item of a file of `crates/*/specs`, or a constant, a type or a trait of `crates/*/src`. A contract is the head of a
-function of `crates/*/src` with its clauses.
+A definition is an item of a file of `crates/*/specs`, or a constant, a type or a trait of `crates/*/src`. A definition may name one of
+the proofs of a crate below it, which then is one too. A contract is the head of a function of `crates/*/src` with its clauses.
 """
 import functools
 import hashlib
@@ -16,7 +16,8 @@ HASH_DIGITS = 12  # of the 64 of SHA-256
 HOLE = "◌"  # stands for an operand in the name of an operator
 
 USE = re.compile(r"(?:ghost |pub )*use Rattle\.([\w.]+?)(?:\.\{(.*)\})?(?: as (\w+))?;?$")
-DEFINITION = re.compile(r"(?:(?:abbrev|unfoldable|opaque) pub|pub (record|data)|pub(?! mod)) ([^\s:({]+)")
+DEFINITION = re.compile(r"(?:(?:abbrev|unfoldable|opaque)(?: pub)? |pub (record|data) |pub (?!mod)|(?=[^\s:({]+ : ))([^\s:({]+)")
+BARE = re.compile(r"[^\s:({]+ : ")
 BEGINNING = re.compile(r"(?:use|pub|abbrev|unfoldable|opaque|module|infix\w*) ")
 WORD = re.compile(r"[A-Za-z_][\w']*(?:\.[A-Za-z_][\w']*)*")
 
@@ -88,6 +89,7 @@ class Scope(NamedTuple):
         return type_of(self.path, head) if self.path.suffix == ".rt" else None
 
 
+@functools.cache
 def references_of(item: Item) -> list[Reference]:
     """Returns what the names in the text of an item refer to, each once, in the order of the text."""
     scope, found = scope_of(item.path), dict[str, Reference]()
@@ -116,9 +118,10 @@ def whole_hash_of(item: Item) -> str:
 
 def find(module: str, name: str) -> Reference:
     """Returns the item that a module has under a name, by its own text or by an import."""
-    crate, _, rest = module.partition(".specs.")
+    crate, _, rest = module.partition(".")
     if not (CRATES / crate).is_dir():
         return External(module, name)
+    rest = rest.partition(".")[2]
     if rest.startswith("declared."):
         return declared(crate, rest.split(".")[1:], name)
     if path := file_of(module):
@@ -142,16 +145,16 @@ def declared(crate: str, parts: Sequence[str], name: str) -> Item:
     else:
         parts = [part for part in parts if part != "TheVariants"]
         parts, item = parts[:-1], parts[-1]
-    return scope_of((CRATES / crate / "src").joinpath(*parts).with_suffix(".rt")).items[item]
+    return scope_of((CRATES / crate / "src").joinpath(*(parts or ("lib",))).with_suffix(".rt")).items[item]
 
 
 def file_of(module: str) -> Optional[Path]:
-    """Returns the file of a module of definitions, which may be one that the crate passes on."""
-    crate, _, rest = module.partition(".specs.")
-    path = (CRATES / crate / "specs").joinpath(*rest.split(".")).with_suffix(".antt")
+    """Returns the file of a module of definitions, which may be one that the crate passes on. It is in specs/, or in proofs/."""
+    crate, folder, *parts = module.split(".")
+    path = (CRATES / crate / folder).joinpath(*parts).with_suffix(".antt")
     if path.is_file():
         return path
-    library = CRATES / crate / "specs/Lib.antt"
+    library, rest = CRATES / crate / folder / "Lib.antt", ".".join(parts)
     passed_on = scope_of(library).imports.get(rest) if library.is_file() else None
     return file_of(passed_on[0]) if passed_on else None
 
@@ -205,7 +208,9 @@ def definitions_of(path: Path) -> Scope:
 
 def ends_definition(first: Line, line: Line, is_block: bool) -> bool:
     """Returns whether a line is behind the definition with this first line. A record or a data type has a block of lines."""
-    return line.depth <= first.depth if is_block else BEGINNING.match(line.code) is not None
+    if is_block:
+        return line.depth <= first.depth
+    return BEGINNING.match(line.code) is not None or (line.depth <= first.depth and BARE.match(line.code) is not None)
 
 
 def constructors_of(kind: Optional[str], lines: Sequence[Line]) -> list[str]:

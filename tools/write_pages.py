@@ -1,5 +1,5 @@
 #!/usr/bin/env python3
-"""Writes the parts of docs/STATEMENT.md and docs/TRUST.md that are made from the sources.
+"""Writes the parts of docs/proof/STATEMENT.md, docs/proof/CONTRACTS.md and docs/proof/TRUST.md that are made from the sources.
 
 usage: write_pages.py [--check]
 
@@ -9,6 +9,9 @@ A part stands between a comment that says what it has and the comment `<!-- end 
     <!-- call CRATE/FILE NAME -->           the contract of a call or what contracts see of a type, in a file of src/, and the definitions
                                             that it reaches
     <!-- laws -->                           the same of each law
+    <!-- contracts -->                      the contracts of the calls that docs/proof/PROVED.md names and of the doors' calls, and what contracts
+                                            see of the types that it names, but for those that docs/proof/STATEMENT.md has
+    <!-- file CRATE/FILE -->                a file of src/, whole
     <!-- kit -->                            the definitions of the kit that all of these reach
     <!-- counts -->                         how many functions, clauses, tests and edits there are
 
@@ -18,6 +21,7 @@ its names refer to. A hash is the first 12 digits of SHA-256.
 With --check, the pages stay as they are. Then a line is printed for each part. The exit status is 0, or 1 if a part isn't what this
 script would write.
 """
+import hashlib
 import re
 import sys
 import textwrap
@@ -26,14 +30,18 @@ from pathlib import Path
 
 sys.path.insert(0, str(Path(__file__).resolve().parents[1] / "tests"))
 
+from check_proved import Call, calls_named, calls_of_doors, claims, contracts
 from definitions import CLAUSE, CRATES, ROOT, Item, hash_of, reached_from, scope_of, whole_hash_of
 from program import Report, parser_of
 
-PAGES = ("docs/STATEMENT.md", "docs/TRUST.md")
-PART = re.compile(r"(?P<begin><!-- (?P<kind>definition|call|laws|kit|counts)(?P<words>[^>]*) -->\n)(?P<text>.*?)(?P<end><!-- end -->)", re.DOTALL)
+PAGES = ("docs/proof/STATEMENT.md", "docs/proof/CONTRACTS.md", "docs/proof/TRUST.md")
+PART = re.compile(r"(?P<begin><!-- (?P<kind>definition|call|laws|contracts|file|kit|counts)(?P<words>[^>]*) -->\n)(?P<text>.*?)(?P<end><!-- end -->)", re.DOTALL)
 FUNCTION = re.compile(r"^ *(?:pub(?:\(\w+\))? )?fn ", re.MULTILINE)
 TEST = re.compile(r"^ *#\[test\]", re.MULTILINE)
 PUBLIC_LAW = re.compile(r"^pub fn (\w+)", re.MULTILINE)
+SEEN = re.compile(r"^ *ghost \w+ = ", re.MULTILINE)  # by contracts, of a type
+BOXED = re.compile(r"^`([^`]+)`, with all that it reaches `\w+`:\n`([^`:]+)", re.MULTILINE)
+CONTRACT = re.compile(rf"^ *{CLAUSE.pattern}", re.MULTILINE)
 
 
 class Page:
@@ -54,6 +62,10 @@ class Page:
                 made = self._contract(item_of("src", *words))
             elif part["kind"] == "laws":
                 made = "\n".join(self._contract(law) for law in laws())
+            elif part["kind"] == "contracts":
+                made = "\n".join(contracts_by_crate())
+            elif part["kind"] == "file":
+                made = whole(source_of("src", words[0]))
             elif part["kind"] == "kit":
                 made = block("\n".join(self._rows_of_kit()))
             else:
@@ -69,13 +81,16 @@ class Page:
                 self._of_kit.setdefault(each.module, set()).add(each.name)
         new = [item for item in found if item not in self._listed]
         self._listed.update(new)
-        title = f"`{call.name}`, with all that it reaches `{whole_hash_of(call)}`:\n`{file_of(call)}:{call.line}`"
         listed = block("\n".join(row_of(item) for item in new)) if new else ""
-        return "\n".join((title, "", block(call.text), f"It reaches {count_of(len(found), len(new))}", "", listed)).rstrip() + "\n"
+        return "\n".join((contract_of(call, f"{file_of(call)}:{call.line}"), f"It reaches {count_of(len(found), len(new))}", "", listed)).rstrip() + "\n"
 
     def _rows_of_kit(self) -> Iterator[str]:
         for module, names in sorted(self._of_kit.items()):
             yield from textwrap.wrap(f"{module}: {', '.join(sorted(names))}", 100, subsequent_indent="    ", break_on_hyphens=False)
+
+
+def contract_of(call: Item, place: str) -> str:
+    return f"`{call.name}`, with all that it reaches `{whole_hash_of(call)}`:\n`{place}`\n\n{block(call.text)}"
 
 
 def count_of(found: int, new: int) -> str:
@@ -96,10 +111,21 @@ def block(text: str) -> str:
     return f"```\n{text}\n```\n"
 
 
+def source_of(folder: str, file: str) -> Path:
+    """Returns the path of a file, given as CRATE/FILE, in the crate's folder specs/ or src/."""
+    crate, _, rest = file.partition("/")
+    return CRATES / crate / folder / f"{rest}.{'antt' if folder == 'specs' else 'rt'}"
+
+
 def item_of(folder: str, file: str, name: str) -> Item:
     """Returns the item of a file, given as CRATE/FILE, in the crate's folder specs/ or src/."""
-    crate, _, rest = file.partition("/")
-    return scope_of(CRATES / crate / folder / f"{rest}.{'antt' if folder == 'specs' else 'rt'}").items[name]
+    return scope_of(source_of(folder, file)).items[name]
+
+
+def whole(path: Path) -> str:
+    """Returns a file with its hash."""
+    text = path.read_text().rstrip("\n")
+    return f"`{path.relative_to(ROOT)}` `{hashlib.sha256(path.read_bytes()).hexdigest()[:12]}`:\n\n{block(text)}"
 
 
 def laws() -> Iterator[Item]:
@@ -107,6 +133,26 @@ def laws() -> Iterator[Item]:
     for path in sorted(CRATES.glob("*/src/laws.rt")):
         for name in PUBLIC_LAW.findall(path.read_text()):
             yield scope_of(path).items[name]
+
+
+def contracts_by_crate() -> Iterator[str]:
+    """Yields a heading for each crate, and the contracts of its calls that docs/proof/STATEMENT.md doesn't have."""
+    found = contracts()
+    calls = calls_named(found) | calls_of_doors(found)
+    types = {name for calls_of, _ in claims() for _, name in calls_of}
+    boxed = set(BOXED.findall((ROOT / "docs/proof/STATEMENT.md").read_text()))
+    for crate in sorted(path.name for path in CRATES.iterdir()):
+        items = [item for path in sorted((CRATES / crate / "src").rglob("*.rt")) for item in scope_of(path).items.values()]
+        shown = {label_of(call) for call in calls if call.crate == crate}
+        stated = [item for item in items if (item.name in shown and CONTRACT.search(item.text)) or (item.name in types and SEEN.search(item.text))]
+        chosen = [item for item in stated if (item.name, file_of(item)) not in boxed]
+        if chosen:
+            yield f"## {crate}\n"
+            yield from (contract_of(item, file_of(item)) for item in chosen)
+
+
+def label_of(call: Call) -> str:
+    return f"{call.owner}::{call.name}" if call.owner else call.name
 
 
 def counts() -> str:

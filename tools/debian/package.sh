@@ -17,7 +17,7 @@ move_to_debian_places() { # PREFIX
     gzip --no-name -9 "$1"/share/man/man1/*.1
     mv "$1/share/zsh/site-functions" "$1/share/zsh/vendor-completions"
     ln --symbolic --force ../../common-licenses/Apache-2.0 "$documents/LICENSE"
-    cp "$root/tools/debian/copyright" "$documents/copyright"
+    print_copyright > "$documents/copyright"
     move_scripts "$documents" "$1"
     move_python_package "$documents/python" "$1/lib/python3/dist-packages"
     mv "$documents/gateway/warcdx_gateway" "$1/lib/python3/dist-packages"
@@ -34,6 +34,13 @@ move_scripts() { # DOCUMENTS PREFIX
         print_start "$script" "/usr/share/warcdx/${script##*/}" > "$2/bin/${script##*/}"
     done
     rmdir "$1"/{python,gateway}/bin
+}
+
+print_copyright() { # with the terms of the libraries, as a field of more than one line
+    sed '/^Comment: /,$d' "$root/tools/debian/copyright"
+    echo "Comment: The programs are linked with libraries that have their own terms."
+    sed 's/^$/./; s/^/ /' "$root/NOTICE"
+    sed '1,/^Comment: /d' "$root/tools/debian/copyright"
 }
 
 # print_start SCRIPT PATH: prints a start for a Python script, whose path is a word of sh.
@@ -102,8 +109,8 @@ Description: indexer of web archives, with queries over the indexes
 END
 }
 
-maintainer() { # whose commit it is
-    git -C "$root" log -1 --format='%an <%ae>'
+maintainer() { # whom CONTACT names, or else whose commit it is
+    sed 's/^[^ ]* //' "$root/CONTACT" | grep . || git -C "$root" log -1 --format='%an <%ae>'
 }
 
 installed_size() { # FOLDER: in kB, as dpkg-gencontrol counts, whatever the file system
