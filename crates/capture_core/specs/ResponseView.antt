@@ -1,7 +1,7 @@
 -- What contracts see of an HTTP head.
 use Rattle.std.specs.Prelude.{◌≡◌, List, ℕ, length, drop, codes, option_map}
 use Rattle.httparse.specs.Grammar.{ResponseHead, print_response, status_code}
-use Rattle.capture_core.specs.declared.http_head.HttpHead.{HttpHead}
+use Rattle.capture_core.specs.declared.response.HttpHead.{HttpHead}
 use Rattle.capture_core.specs.declared.http_head.TheConstants.{HTTP_HEAD_LIMIT, HTTP_FIELD_LIMIT}
 use Rattle.capture_core.specs.HttpHead.{BeginsWithHead, field_of}
 use Rattle.capture_core.specs.Capture.{ResponseValue}

@@ -1,5 +1,5 @@
 //! The end of a record whose capture is read.
-ghost use Rattle.std.specs.Prelude.{◌≡◌, ◌<◌, length, IfOk, IfSome, OnOk, option_map};
+ghost use Rattle.std.specs.Prelude.{◌≡◌, ◌<◌, length, IfOk, OnOk, option_map};
 ghost use Rattle.warc_core.specs.ReaderView.{IfOpen, state_of};
 ghost use Rattle.capture_core.specs.BlockParts.{block_view, digest_text};
 ghost use Rattle.capture_core.specs.Capture.{IsFilled, block_of};
@@ -7,9 +7,9 @@ ghost use Rattle.capture_core.specs.RecordReading.{ReadsRest, IsOpenFor};
 ghost use Rattle.capture_core.specs.ResponseView.{response_view};
 
 use crate::block_parts::BlockParts;
-use crate::http_head::HttpHead;
 use crate::mime::mime;
 use crate::payload_digest::PayloadDigest;
+use crate::response::HttpHead;
 use std::alloc::AllocError;
 use warc_core::{Cause, Fault, Head, Input, Reader};
 
@@ -53,7 +53,6 @@ pub(crate) fn close_block<'a, I: Input>(
     digest: PayloadDigest<'a>,
     kept: &mut Vec<u8>,
 ) -> Result<BlockParts<'a>, Fault>
-    requires code { IfSome response (λ r. r.code < 1000) }
     requires digested { 0 < length (digest_text digest) }
     requires stands { IsOpenFor head.now reader.old }
     ensures reads { IfOpen reader.old.phase (λ left _. ReadsRest left head.now

@@ -1,11 +1,12 @@
 //! The HTTP head at the start of a block.
-ghost use Rattle.std.specs.Prelude.{◌≡◌, ◌<◌, ◌≤◌, length, map, All, IfOk, IfErr, IfSome, IfNone};
+ghost use Rattle.std.specs.Prelude.{◌≡◌, ◌≤◌, length, map, All, IfOk, IfErr, IfSome, IfNone};
 ghost use Rattle.std.specs.Prelude.{option_map};
 ghost use Rattle.std.specs.Str.{str_eq_ignore_ascii_case};
 ghost use Rattle.httparse.specs.Spans.{IsHeaderWithin, ResponseOverflows, header_bytes};
 ghost use Rattle.capture_core.specs.HttpHead.{HasNoHead, first_field_value};
 ghost use Rattle.capture_core.specs.ResponseView.{IsHeadAt};
 
+use crate::response::HttpHead;
 use httparse::spans::{EMPTY_HEADER_SPAN, HeaderSpan, parse_response};
 use httparse::{Error, Status};
 
@@ -23,17 +24,6 @@ pub(crate) type UsualSpans = [HeaderSpan; USUAL_FIELDS];
 
 pub(crate) const EMPTY_SPANS: UsualSpans = [EMPTY_HEADER_SPAN; USUAL_FIELDS];
 
-/// The parts of an HTTP head that a capture uses.
-#[derive(Clone, Copy)]
-pub(crate) struct HttpHead<'a> {
-    /// The status code, of three digits.
-    pub code: u16,
-    /// The value of the first `Content-Type`.
-    pub content_type: Option<&'a [u8]>,
-    /// The length of the head in bytes. The payload follows it.
-    pub len: usize,
-}
-
 /// An HTTP head has more fields than it is parsed with.
 #[derive(Clone, Copy)]
 struct TooManyFields;
@@ -42,7 +32,6 @@ struct TooManyFields;
 /// block are enough.
 pub(crate) fn http_head<'a>(block: &'a [u8], spans: &mut UsualSpans) -> Option<HttpHead<'a>>
     ensures found { IfSome result (IsHeadAt block.now) }
-    ensures three_digits { IfSome result (λ r. r.code < 1000) }
     ensures within { IfSome result (λ r. r.len ≤ length block.now) }
     ensures none { IfNone result (HasNoHead HTTP_HEAD_LIMIT HTTP_FIELD_LIMIT block.now) }
 {
@@ -59,7 +48,6 @@ pub(crate) fn http_head<'a>(block: &'a [u8], spans: &mut UsualSpans) -> Option<H
 /// Like `http_head`, for a head of more fields than usual.
 fn head_of_many_fields(block: &[u8]) -> Option<HttpHead<'_>>
     ensures found { IfSome result (IsHeadAt block.now) }
-    ensures three_digits { IfSome result (λ r. r.code < 1000) }
     ensures within { IfSome result (λ r. r.len ≤ length block.now) }
     ensures none { IfNone result (HasNoHead HTTP_HEAD_LIMIT HTTP_FIELD_LIMIT block.now) }
 {
@@ -77,7 +65,6 @@ fn head_within<'a>(
 ) -> Result<Option<HttpHead<'a>>, TooManyFields>
     requires { length spans.old ≤ HTTP_FIELD_LIMIT }
     ensures found { IfOk result (λ head. IfSome head (IsHeadAt block.now)) }
-    ensures three_digits { IfOk result (λ head. IfSome head (λ r. r.code < 1000)) }
     ensures within { IfOk result (λ head. IfSome head (λ r. r.len ≤ length block.now)) }
     ensures none { IfOk result (λ head. IfNone head
         (HasNoHead HTTP_HEAD_LIMIT HTTP_FIELD_LIMIT block.now)) }

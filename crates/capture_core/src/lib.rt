@@ -19,6 +19,7 @@ mod payload;
 mod payload_digest;
 mod place;
 mod record_capture;
+mod response;
 mod status;
 mod target;
 mod types;

@@ -5,8 +5,8 @@ ghost use Rattle.capture_core.specs.Capture.{media_of, content_of, mime_of};
 ghost use Rattle.capture_core.specs.ResponseView.{response_view};
 
 use crate::field_value::media_type;
-use crate::http_head::HttpHead;
 use crate::http_record::{content_type, is_http_record};
+use crate::response::HttpHead;
 use warc_core::{Head, Kind};
 
 fn or_missing(value: &[u8]) -> &[u8]

@@ -8,8 +8,9 @@ ghost use Rattle.capture_core.specs.HttpHead.{HasNoHead, IsHeadOf};
 ghost use Rattle.capture_core.specs.ResponseView.{response_view};
 ghost use Rattle.capture_core.specs.CaptureAnswer.{PartsBlock, usual_limits};
 
-use crate::http_head::{HTTP_FIELD_LIMIT, HTTP_HEAD_LIMIT, HttpHead, UsualSpans, http_head};
+use crate::http_head::{HTTP_FIELD_LIMIT, HTTP_HEAD_LIMIT, UsualSpans, http_head};
 use crate::http_record::may_have_head;
+use crate::response::HttpHead;
 use warc_core::Head;
 
 /// The first bytes of a record's block, with the HTTP head, if there is one, and the start of the
@@ -55,7 +56,6 @@ pub(crate) fn part_decided<'a>(
     ensures parts { IfSome result (λ p. PartsBlock usual_limits head.now p.bytes.now
         (option_map response_view p.response) p.payload.now) }
     ensures bytes { IfSome result (λ p. p.bytes.now ≡ front.now) }
-    ensures code { IfSome result (λ p. IfSome p.response (λ r. r.code < 1000)) }
     ensures open { IfNone result (length front.now < whole) }
 {
     // For the proof alone: what the type says of the head.
@@ -75,7 +75,6 @@ pub(crate) fn part<'a>(front: &'a [u8], spans: &mut UsualSpans) -> SplitBlock<'a
         × (option_map response_view result.response ≡ option_map (λ f. response_of f.0) found)
         × (result.payload.now ≡ payload_of front.now found) }
     ensures bytes { result.bytes.now ≡ front.now }
-    ensures code { IfSome result.response (λ r. r.code < 1000) }
 {
     match http_head(front, spans) {
         Some(head) => SplitBlock {

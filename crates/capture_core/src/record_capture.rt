@@ -299,7 +299,6 @@ fn finish_block<'a, I: Input>(
     requires ready { HasFront head.now parted.bytes.now reader.old }
     requires parts { PartsBlock usual_limits head.now parted.bytes.now
         (option_map response_view parted.response) parted.payload.now }
-    requires code { IfSome parted.response (λ r. r.code < 1000) }
     ensures { ReadsBlock head.now parted.entry.bytes.now
         (state_of reader.old (I.remaining input.old) (I.failures input.old))
         (state_of reader.new (I.remaining input.new) (I.failures input.new))
