@@ -7,6 +7,7 @@ pub mod PagesReach
 pub mod ReplyLemmas
 pub mod ComposeLemmas
 pub mod PageIndexes
+pub mod DropLemmas
 pub mod PageChains
 pub mod PageRows
 pub mod NothingLemmas

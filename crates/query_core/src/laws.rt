@@ -3,7 +3,8 @@
 ghost use Rattle.std.specs.Prelude.{◌≡◌};
 ghost use Rattle.query_core.specs.declared.merging.TheConstants.{SOURCES_LIMIT};
 ghost use Rattle.query_core.specs.Limits.{LINE_LIMIT, QUERY_LIMIT};
-ghost use Rattle.query_core.specs.MergeLaws.{MergedIsIndex, MergesCommute, MergesGroup};
+ghost use Rattle.query_core.specs.MergeLaws.{KeptIsIndex, MergedIsIndex, MergesCommute};
+ghost use Rattle.query_core.specs.MergeLaws.{MergesDropFiles, MergesGroup};
 ghost use Rattle.query_core.specs.NothingAsked.{AppendedSelectsNothing, EmptyIsRefused};
 ghost use Rattle.query_core.specs.OneText.{AnswerIsOne, MergeIsOne, PagesAreOne, RepliesAreOne};
 ghost use Rattle.query_core.specs.PageLines.{EmptyLineIsBeforeKey, JsonLinesBeginWithBrackets};
@@ -48,6 +49,14 @@ pub fn merged_lines_are_an_index()
 pub fn merges_compose()
     ensures group { MergesGroup }
     ensures order { MergesCommute }
+{}
+
+/// Without the lines of some file names, a merge of indexes is an index, and the merge of the indexes without these lines.
+/// So an archive is taken out of an index by its file name.
+#[tactic(auto, using(crate::proofs::DropLemmas::merges_drop))]
+pub fn dropped_files_leave_the_rest()
+    ensures merge { MergesDropFiles }
+    ensures index { KeptIsIndex }
 {}
 
 /// The captures of consecutive pages, whatever the bytes of the sources, rise by place, match the query, and are above
