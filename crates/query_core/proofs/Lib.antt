@@ -8,6 +8,7 @@ pub mod ReplyLemmas
 pub mod ComposeLemmas
 pub mod PageIndexes
 pub mod DropLemmas
+pub mod GrowingLemmas
 pub mod PageChains
 pub mod PageRows
 pub mod NothingLemmas

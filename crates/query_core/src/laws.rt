@@ -11,6 +11,7 @@ ghost use Rattle.query_core.specs.PageLines.{EmptyLineIsBeforeKey, JsonLinesBegi
 ghost use Rattle.query_core.specs.PageLines.{NoPageHasFaults, OneFieldHasMarks, OneFieldHasNoSpace};
 ghost use Rattle.query_core.specs.PageLines.{TwoFieldsBeginAsRefusals};
 ghost use Rattle.query_core.specs.QueryLaws.{AddedOnlyAdd, AllAreKept, CdxjPageIsIndex};
+ghost use Rattle.query_core.specs.QueryLaws.{GrowingLosesNone};
 ghost use Rattle.query_core.specs.QueryLaws.{KeysContinue, NamesNameFields, NoLineIsAtFault};
 ghost use Rattle.query_core.specs.QueryLaws.{PagesRise, SelectedAreFirst, SelectedRise};
 
@@ -30,6 +31,15 @@ pub fn added_indexes_only_add()
     ensures { AddedOnlyAdd }
 {
     pages_are_selected();
+}
+
+/// Who asks for one page after another, each with the resume key of the one before, misses no capture of the indexes as
+/// they were at first, if the query collapses nothing: what is added to the indexes meanwhile takes nothing away.
+pub fn pages_of_growing_indexes_lose_none()
+    ensures { GrowingLosesNone }
+{
+    pages_are_selected();
+    added_indexes_only_add();
 }
 
 /// Over indexes, a page in cdxj that ends without a resume key is an index of its captures.
