@@ -105,7 +105,7 @@ module _ {X P : Type 0} (place : X → P) (R : P → P → Ordering) (same : P �
       grind (arith, filter_filter, above_trans, resumes, rises_filter)
 
   -- where no place follows the n-th member, the first n are all
-  all_taken : (n : ℕ) (c : List X) → 0 < n → next_after place n c ≡ None → take n c ≡ c
+  pub all_taken : (n : ℕ) (c : List X) → 0 < n → next_after place n c ≡ None → take n c ≡ c
   all_taken (suc (suc n)) (x ∷ xs) z h = grind (arith, all_taken (suc n) xs)
   all_taken n c z h = grind arith
 

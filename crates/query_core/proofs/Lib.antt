@@ -7,6 +7,8 @@ pub mod PagesReach
 pub mod ReplyLemmas
 pub mod ComposeLemmas
 pub mod PageIndexes
+pub mod DropLemmas
+pub mod GrowingLemmas
 pub mod PageChains
 pub mod PageRows
 pub mod NothingLemmas

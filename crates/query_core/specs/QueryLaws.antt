@@ -1,5 +1,6 @@
 -- Laws of the definitions that the contracts cite.
-use Rattle.std.specs.Prelude.{◌≡◌, ◌↔◌, ℕ, ◌≤◌, List, ◌++◌, length, flat_map, true, Option, None, Some, Ok}
+use Rattle.std.specs.Prelude.{◌≡◌, ◌↔◌, ℕ, ◌<◌, ◌≤◌, List, [], ◌∷◌, ◌++◌, length, flat_map, true, Option, None, Some, Ok}
+use Rattle.std.specs.Prelude.{MatchOption}
 use Rattle.std.specs.List.{AllByRecursion, AllZip, filter}
 use Rattle.cdxj_places.specs.Places.{PlaceValue, place_cmp, resume_text}
 use Rattle.cdxj_places.specs.Rising.{IsFirst, IsIn, Rises}
@@ -19,7 +20,7 @@ use Rattle.query_core.specs.declared.fault.AnswerFault.{AnswerFault}
 use Rattle.query_core.specs.IndexFaults.{IsAnswerFaultOf, NamesNoLine}
 use Rattle.query_core.specs.PageWriting.{is_wanted}
 use Rattle.query_core.specs.WrittenPages.{EndsWithKey}
-use Rattle.query_core.specs.QueryPages.{IsQueryChain, answer_text, query_page, selected, shown_key}
+use Rattle.query_core.specs.QueryPages.{IsQueryChain, answer_text, query_captures, query_page, selected, shown_key}
 
 -- without `collapse` nothing is left out
 abbrev pub AllAreKept : Type 0
@@ -58,6 +59,22 @@ PagesRise = (q : QueryValue) (lines : List Member) (sizes : List ℕ) (pages : L
     → AllPositive sizes → IsQueryChain q lines sizes pages
     → Rises member_place place_cmp (flat_map (λ page. page.members) pages)
     × AllByRecursion (λ m. is_wanted q q.resume m ≡ true) (flat_map (λ page. page.members) pages)
+
+-- Pages of a query, one after another, each of so many captures after the place that the one before gives, over indexes
+-- that grow meanwhile: further indexes follow those that were there.
+abbrev pub ArePagesMeanwhile : QueryValue → ℕ → Option PlaceValue → List (List Member) → List (Page Member PlaceValue)
+    → Type 0
+ArePagesMeanwhile q size after indexes [] = ⊥
+ArePagesMeanwhile q size after indexes (page ∷ pages) =
+    (page ≡ query_page (record q { resume = after; limit = Some size }) (collection indexes))
+    × MatchOption page.next (pages ≡ []) (λ next. (added : List (List Member))
+    × ArePagesMeanwhile q size (Some next) (indexes ++ added) pages)
+
+-- without `collapse` such pages have all captures that the query asks for of the first indexes
+abbrev pub GrowingLosesNone : Type 0
+GrowingLosesNone = (q : QueryValue) (size : ℕ) (indexes : List (List Member)) (pages : List (Page Member PlaceValue))
+    → q.collapse ≡ None → 0 < size → ArePagesMeanwhile q size q.resume indexes pages → (m : Member)
+    → IsIn m (query_captures q (collection indexes)) → IsIn m (flat_map (λ page. page.members) pages)
 
 -- The resume key that a page ends with continues the page: put into the query's text, in the place of an older one or
 -- after all else, where the text isn't too long, it means the same query after the page's last capture.

@@ -3,13 +3,15 @@
 ghost use Rattle.std.specs.Prelude.{◌≡◌};
 ghost use Rattle.query_core.specs.declared.merging.TheConstants.{SOURCES_LIMIT};
 ghost use Rattle.query_core.specs.Limits.{LINE_LIMIT, QUERY_LIMIT};
-ghost use Rattle.query_core.specs.MergeLaws.{MergedIsIndex, MergesCommute, MergesGroup};
+ghost use Rattle.query_core.specs.MergeLaws.{KeptIsIndex, MergedIsIndex, MergesCommute};
+ghost use Rattle.query_core.specs.MergeLaws.{MergesDropFiles, MergesGroup};
 ghost use Rattle.query_core.specs.NothingAsked.{AppendedSelectsNothing, EmptyIsRefused};
 ghost use Rattle.query_core.specs.OneText.{AnswerIsOne, MergeIsOne, PagesAreOne, RepliesAreOne};
 ghost use Rattle.query_core.specs.PageLines.{EmptyLineIsBeforeKey, JsonLinesBeginWithBrackets};
 ghost use Rattle.query_core.specs.PageLines.{NoPageHasFaults, OneFieldHasMarks, OneFieldHasNoSpace};
 ghost use Rattle.query_core.specs.PageLines.{TwoFieldsBeginAsRefusals};
 ghost use Rattle.query_core.specs.QueryLaws.{AddedOnlyAdd, AllAreKept, CdxjPageIsIndex};
+ghost use Rattle.query_core.specs.QueryLaws.{GrowingLosesNone};
 ghost use Rattle.query_core.specs.QueryLaws.{KeysContinue, NamesNameFields, NoLineIsAtFault};
 ghost use Rattle.query_core.specs.QueryLaws.{PagesRise, SelectedAreFirst, SelectedRise};
 
@@ -31,6 +33,15 @@ pub fn added_indexes_only_add()
     pages_are_selected();
 }
 
+/// Who asks for one page after another, each with the resume key of the one before, misses no capture of the indexes as
+/// they were at first, if the query collapses nothing: what is added to the indexes meanwhile takes nothing away.
+pub fn pages_of_growing_indexes_lose_none()
+    ensures { GrowingLosesNone }
+{
+    pages_are_selected();
+    added_indexes_only_add();
+}
+
 /// Over indexes, a page in cdxj that ends without a resume key is an index of its captures.
 pub fn cdxj_pages_are_indexes()
     ensures { CdxjPageIsIndex }
@@ -48,6 +59,14 @@ pub fn merged_lines_are_an_index()
 pub fn merges_compose()
     ensures group { MergesGroup }
     ensures order { MergesCommute }
+{}
+
+/// Without the lines of some file names, a merge of indexes is an index, and the merge of the indexes without these lines.
+/// So an archive is taken out of an index by its file name.
+#[tactic(auto, using(crate::proofs::DropLemmas::merges_drop))]
+pub fn dropped_files_leave_the_rest()
+    ensures merge { MergesDropFiles }
+    ensures index { KeptIsIndex }
 {}
 
 /// The captures of consecutive pages, whatever the bytes of the sources, rise by place, match the query, and are above

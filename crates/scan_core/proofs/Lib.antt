@@ -1,3 +1,4 @@
 pub mod ArchiveLemmas
 pub mod WantLemmas
 pub mod ScanLemmas
+pub mod DropLemmas

@@ -1,6 +1,8 @@
 -- Laws of the definitions that the contracts cite.
 use Rattle.std.specs.List.{AllZip}
-use Rattle.std.specs.Prelude.{◌≡◌, ℕ, ◌-◌, ◌^◌, ◌<◌, ⊤, Bool, List, [], ◌∷◌, length, map, Option, Some, Ok, Err}
+use Rattle.std.specs.Prelude.{◌≡◌, ℕ, ◌-◌, ◌^◌, ◌<◌, ⊤, Bool, List, [], ◌∷◌, ◌++◌, length, map, not, Option, Some, Ok}
+use Rattle.std.specs.Prelude.{Err, false}
+use Rattle.std.specs.Str.{bytes_eq}
 use Rattle.std.specs.List.{AllByRecursion}
 use Rattle.warc_core.specs.Kind.{Kind}
 use Rattle.warc_core.specs.declared.fault.Cause.TheVariants as causes
@@ -11,11 +13,12 @@ use Rattle.archives.specs.Packing.{form_of}
 use Rattle.archives.specs.State.{ToldArchive}
 use Rattle.index_core.specs.Accepted.{IsAcceptedWhole}
 use Rattle.cdxj_core.specs.Entries.{EntryValue}
-use Rattle.index_core.specs.Indexing.{index_text}
+use Rattle.index_core.specs.Indexing.{AreNamed, index_text}
 use Rattle.merge_core.specs.Collections.{Known, collection}
 use Rattle.merge_core.specs.Written.{lines_text}
 use Rattle.query_text.specs.declared.fault.QueryFault.TheVariants as refusal
 use Rattle.query_text.specs.Queries.{QueryValue}
+use Rattle.query_core.specs.MergeLaws.{of_files}
 use Rattle.query_core.specs.declared.fault.AnswerFault.TheVariants as answer
 use Rattle.scan_core.specs.declared.fault.ScanFault.{ScanFault}
 use Rattle.scan_core.specs.declared.fault.ScanFault.TheVariants.{Query, Archive, Answer}
@@ -61,6 +64,17 @@ IndexIsMerge = (archives : List (List EntryValue))
 abbrev pub ScanIsOverIndex : Type 0
 ScanIsOverIndex = (archives : List (List EntryValue))
     → captured_lines archives ≡ collection (index_members (all_captures archives) ∷ [])
+
+-- no capture has this file name
+abbrev pub AreOfOthers : List ℕ → List EntryValue → Type 0
+AreOfOthers name captures = AllByRecursion (λ e. bytes_eq name e.filename ≡ false) captures
+
+-- the lines of the index of several archives without those of an archive's file name are those of the others' index
+abbrev pub RemovedIsDropped : Type 0
+RemovedIsDropped = (name : List ℕ) (before : List (List EntryValue)) (removed : List EntryValue)
+    (after : List (List EntryValue)) → AreNamed name removed → AreOfOthers name (all_captures (before ++ after))
+    → of_files (λ file. not (bytes_eq name file)) (captured_lines (before ++ removed ∷ after))
+    ≡ captured_lines (before ++ after)
 
 -- where nothing is at fault and no device failed, a scan is refused only for want of memory
 abbrev pub OnlyMemoryIsWanting : Type 0

@@ -2,7 +2,7 @@
 ghost use Rattle.std.specs.Prelude.{◌≡◌};
 ghost use Rattle.capture_core.specs.CaptureAnswer.{usual_limits};
 ghost use Rattle.warc_core.specs.declared.next.TheConstants.{HEAD_LIMIT};
-ghost use Rattle.scan_core.specs.Laws.{IndexIsMerge, OnlyMemoryIsWanting, ScanIsOne};
+ghost use Rattle.scan_core.specs.Laws.{IndexIsMerge, OnlyMemoryIsWanting, RemovedIsDropped, ScanIsOne};
 ghost use Rattle.scan_core.specs.Laws.{ScanIsOverIndex};
 
 use index_core::{accepted_archive_is_not_refused, archive_has_one_list_of_captures};
@@ -19,6 +19,13 @@ pub fn accepted_archives_are_scanned()
 #[tactic(auto, using(crate::proofs::ScanLemmas::index_is_merge))]
 pub fn index_of_archives_is_merge()
     ensures { IndexIsMerge }
+{}
+
+/// The index of several archives without the lines of an archive's file name is the index of the other archives, if
+/// each has a file name of its own.
+#[tactic(auto, using(crate::proofs::DropLemmas::removed_is_dropped))]
+pub fn removed_archive_is_dropped()
+    ensures { RemovedIsDropped }
 {}
 
 /// The pages of a scan are those of the index of all its archives: `scan` writes what `index` and `pages` write.

@@ -12,7 +12,7 @@ mod scanning;
 pub use crate::fault::ScanFault;
 pub use crate::laws::{
     accepted_archives_are_scanned, index_of_archives_is_merge, limits_of_archives_are_these,
-    scan_is_index_and_pages, scan_writes_one_text,
+    removed_archive_is_dropped, scan_is_index_and_pages, scan_writes_one_text,
 };
 pub use crate::named::Named;
 pub use crate::scanning::scan;
