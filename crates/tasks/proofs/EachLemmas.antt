@@ -14,7 +14,7 @@ pub match_bool-of : {A B : Type 0} (b : Bool) → (b ≡ true → A) → (b ≡ 
 match_bool-of b f g = grind arith
 
 -- steps that are steps of another kind, of what is seen of the state
-goes_over-map : {S T : Type 0} (P : S → List ℕ → Outcome → S → Type 0) (Q : T → List ℕ → Outcome → T → Type 0)
+pub goes_over-map : {S T : Type 0} (P : S → List ℕ → Outcome → S → Type 0) (Q : T → List ℕ → Outcome → T → Type 0)
     (view : S → T)
     → ((state : S) (name : List ℕ) (ended : Outcome) (next : S) → P state name ended next
     → Q (view state) name ended (view next))

@@ -1,5 +1,5 @@
 -- What the program does for each task.
-use Rattle.std.specs.Prelude.{ℕ, List, Option, map}
+use Rattle.std.specs.Prelude.{◌≡◌, ℕ, List, Option, None, map}
 use Rattle.capture_core.specs.Types.{includes}
 use Rattle.command_line.specs.Commands.{Meaning, ToList, ToVerify, ToIndex, ToMerge, ToCheck, ToQuery, ToPages, ToServe}
 use Rattle.command_line.specs.Commands.{ToGet, ToScan}
@@ -61,3 +61,14 @@ module _ (files : Openings) (before after : Option (List ℕ)) (unchanged : Type
       (WithTold (files.TellsArchive name) (λ told. WritesRecord len offset told before after unchanged outcome))
   Performs (ToScan types input sizes text names) = ScansNamed files.TellsArchive files.ArchiveFailed (includes types) input
       sizes text names before after unchanged outcome
+
+-- the same archive, of which no bytes are told
+abbrev pub without_bytes : ToldArchive → ToldArchive
+without_bytes archive = record archive { bytes = None }
+
+-- the same files, of which no bytes of an archive or of standard input are told
+abbrev pub untold : Openings → Openings
+untold files = record files {
+  TellsArchive = λ name told. (archive : ToldArchive) × files.TellsArchive name archive × (told ≡ without_bytes archive);
+  TellsInput = λ input. input ≡ None;
+}

@@ -11,6 +11,7 @@ mod each;
 mod fetching;
 mod flush;
 mod indexing;
+mod laws;
 mod merging;
 mod opening;
 mod program;
@@ -22,6 +23,7 @@ mod system;
 
 pub use crate::buffered::Buffered;
 pub use crate::flush::Flush;
+pub use crate::laws::promises_hold_untold;
 pub use crate::opening::{ArchiveOver, Opener};
 pub use crate::program::{perform, run_on};
 pub use crate::standard_input::StandardInput;
