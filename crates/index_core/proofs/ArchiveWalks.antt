@@ -10,11 +10,6 @@ pub walk_nowhere : (limit o : ℕ) (more : List HeadView) (r t : List ℕ) → W
 walk_nowhere limit o [] r t w = refl
 walk_nowhere limit o (h ∷ more) r t w = absurd (grind (arith, walk-front))
 
--- two walks that end at one offset are over the same records
-pub same_heads : (limit start : ℕ) (bytes : List ℕ) (hs gs : List HeadView) (o : ℕ) (r t : List ℕ)
-    → Walks limit start bytes hs o r → Walks limit start bytes gs o t → hs ≡ gs
-same_heads limit start bytes hs gs o r t v w = grind (arith, two-walks, walk_nowhere, append-nil)
-
 module _ (limit : ℕ) (archive : List ℕ) (heads : List HeadView) (o : ℕ) (rest : List ℕ)
     (w : Walks limit 0 archive heads o rest) where
   -- what is left stands behind the records

@@ -23,9 +23,6 @@ length_in phase = 0
 abbrev pub StandsIn : ReaderView → ReaderView → Type 0
 StandsIn old now = StandsAt now old.offset (Open (left_in now.phase) (length_in old.phase))
 
-pub same_open : (a b c d : ℕ) → Open a b ≡ Open c d → (a ≡ c) × (b ≡ d)
-same_open a b c d e = grind arith
-
 -- what is met in a block ends its record
 pub found-of-record : (c : Cause) (left : ℕ) (before after : Option (List ℕ)) → IsPossibleFault (after_block left) c before
     → Reads (after_record left) (Err c) before after

@@ -13,9 +13,6 @@ pub record Field : Type 0 where
   pub name : List ℕ
   pub value : List ℕ
 
-abbrev pub is_no_colon : ℕ → Bool
-is_no_colon b = not (b == colon)
-
 -- the text before the first colon, and the text after it
 unfoldable pub at_colon : List ℕ → Option (List ℕ × List ℕ)
 at_colon [] = None
