@@ -28,8 +28,7 @@ module _ (limit : ℕ) (more : List ℕ) where
       let s = read-spelled limit start bytes rest h e in
       let same : bytes ++ more ≡ s.1 ++ (rest ++ more) = ap (λ (b : List ℕ). b ++ more) s.3 ∙ append_assoc s.1 rest more in
       let spelled = s.2.is_text.spelled in
-      let sized = s.2.is_text.block_length in
-      (
+      let sized = s.2.is_text.block_length in (
         rw same (spelled-read limit start h s.0 s.1 (rest ++ more) s.2),
         block_there h s.0 (closing ++ (rest ++ more)) (bytes ++ more) sized (grind (arith, append_assoc))
             ∙ sym (block_there h s.0 (closing ++ rest) bytes sized (grind (arith, append_assoc))),
@@ -59,13 +58,12 @@ module _ (types : Kind → Bool) (limits : Limits) (form : Form) (name : List �
       × (captures ≡ first ++ later)
   captured_parts [] others captures c = ([], captures, refl, refl)
   captured_parts (r ∷ records) others captures c =
-      let parts = captured_parts records others c.1 c.3 in
-      (
+      let parts = captured_parts records others c.1 c.3 in (
         option_to_list c.0 ++ parts.0,
         parts.1,
         (c.0, parts.0, c.2, parts.2, refl),
         c.4 ∙ ap (λ (es : List EntryValue). option_to_list c.0 ++ es) parts.3
-        ∙ sym (append_assoc (option_to_list c.0) parts.0 parts.1),
+            ∙ sym (append_assoc (option_to_list c.0) parts.0 parts.1),
       )
 
 pub grown_keeps : GrownKeepsCaptures

@@ -6,7 +6,9 @@ ghost use Rattle.scan_core.specs.Laws.{IndexIsMerge, OnlyMemoryIsWanting, Remove
 ghost use Rattle.scan_core.specs.Laws.{SelectedAreFetched};
 ghost use Rattle.scan_core.specs.Laws.{ScanIsOverIndex};
 
-use index_core::{accepted_archive_is_not_refused, archive_has_one_list_of_captures, both_forms_of_get_agree};
+use index_core::{
+    accepted_archive_is_not_refused, archive_has_one_list_of_captures, both_forms_of_get_agree,
+};
 
 /// A scan of archives that are accepted whole, with distinct names, good sizes and a good query, over inputs whose
 /// bytes are known and devices that don't fail, is refused only for lack of memory, or for a key that is too long.
