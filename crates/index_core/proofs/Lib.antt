@@ -27,3 +27,4 @@ pub mod PackedPlaceLemmas
 pub mod PackedFetchLemmas
 pub mod FormListLemmas
 pub mod MemberRowLemmas
+pub mod GrownLemmas

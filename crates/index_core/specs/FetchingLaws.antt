@@ -48,13 +48,17 @@ WroteRecord text (Err (faults.Capture (Archive f))) before after = IsNoDamage f.
 WroteRecord text (Err faults.Write) before after = AppendsPrefix before after text
 WroteRecord text (Err other) before after = ⊥
 
--- of each capture of an archive, both forms write the record's text
-abbrev pub CapturesAreFetched : Type 0
-CapturesAreFetched = (types : Kind → Bool) (limits : Limits) (limit : ℕ) (name archive : List ℕ)
-    (captures : List EntryValue) (e : EntryValue)
-    → IsIndexed types limits (plain limit) name archive captures → IsIn e captures
-    → (text : List ℕ) × IsTextAt limit archive e.offset text × (length text ≡ e.length)
+-- the capture's record stands in the archive, with its length, and both forms write its text
+abbrev pub IsFetched : ℕ → List ℕ → EntryValue → Type 0
+IsFetched limit archive e =
+    (text : List ℕ) × IsTextAt limit archive e.offset text × (length text ≡ e.length)
     × ((result : Result ℕ IndexFault) (before after : Option (List ℕ))
     → Fetches limit e.offset (Some archive) result before after
     ⊎ FetchesAt limit e.offset e.length (Some archive) result before after
     → WroteRecord text result before after)
+
+-- so of each capture of an archive
+abbrev pub CapturesAreFetched : Type 0
+CapturesAreFetched = (types : Kind → Bool) (limits : Limits) (limit : ℕ) (name archive : List ℕ)
+    (captures : List EntryValue) (e : EntryValue)
+    → IsIndexed types limits (plain limit) name archive captures → IsIn e captures → IsFetched limit archive e

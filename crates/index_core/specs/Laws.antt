@@ -1,5 +1,5 @@
 -- Laws of the definitions that the contracts cite.
-use Rattle.std.specs.Prelude.{◌≡◌, ℕ, ◌≤◌, ⊤, ◌⊎◌, Bool, List, drop, map, Some, Result}
+use Rattle.std.specs.Prelude.{◌≡◌, ℕ, ◌≤◌, ⊤, ◌⊎◌, Bool, List, ◌++◌, drop, map, Some, Result}
 use Rattle.cdxj_places.specs.Rising.{IsIn}
 use Rattle.warc_core.specs.HeadView.{HeadView, record_length}
 use Rattle.warc_core.specs.Kind.{Kind}
@@ -89,6 +89,14 @@ CapturesStand = (types : Kind → Bool) (limits : Limits) (limit : ℕ) (name ar
     → IsIndexed types limits (plain limit) name archive captures → IsIn e captures
     → (h : HeadView) × IsRecordOf limit archive e.offset h × (record_length h ≡ e.length)
     × IsCaptureFrom types limits (plain limit) name (plain_record h (drop h.start archive)) (Some e)
+
+-- a plain archive that has grown, and is accepted whole as it was before, has its captures, and further ones behind them
+abbrev pub GrownKeepsCaptures : Type 0
+GrownKeepsCaptures = (types : Kind → Bool) (limits : Limits) (limit : ℕ) (name archive more : List ℕ)
+    (captures grown : List EntryValue)
+    → IsAccepted types limits (plain limit) name archive captures
+    → IsAccepted types limits (plain limit) name (archive ++ more) grown
+    → (added : List EntryValue) × (grown ≡ captures ++ added)
 
 -- an archive that is accepted whole is so under higher limits of lines and heads
 abbrev pub WholeStays : Type 0

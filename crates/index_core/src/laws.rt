@@ -2,7 +2,7 @@
 //! contract.
 ghost use Rattle.index_core.specs.Laws.{AcceptedIsWhole, OneIndexed, OneIndexedTo, CapturesStand};
 ghost use Rattle.index_core.specs.Laws.{OneStands, SomeStands, WholeIsNotRefused, WholeStays};
-ghost use Rattle.index_core.specs.Laws.{CapturesStay, PlainIsDamaged, PlainIsWhole};
+ghost use Rattle.index_core.specs.Laws.{CapturesStay, GrownKeepsCaptures, PlainIsDamaged, PlainIsWhole};
 ghost use Rattle.index_core.specs.FetchingLaws.{LengthAgrees, OffsetAgrees, CapturesAreFetched};
 ghost use Rattle.index_core.specs.RecordLaws.{IsReadToFault, IsReadWhole};
 ghost use Rattle.index_core.specs.MemberLaws.{MembersArePacked, PackedIsMembers};
@@ -70,6 +70,12 @@ pub fn accepted_archive_is_not_refused()
 pub fn accepted_archive_stays_accepted()
     ensures whole { WholeStays }
     ensures captures { CapturesStay }
+{}
+
+/// A plain archive to which records were appended has the captures that it had, and further ones behind them: what was
+/// indexed of it needn't be indexed again.
+pub fn grown_archive_keeps_its_captures()
+    ensures { GrownKeepsCaptures }
 {}
 
 /// An archive of either form is one list of records up to its end, or up to its fault, as it is

@@ -37,9 +37,9 @@ module _ {X P : Type 0} (place : X → P) (R : P → P → Ordering) (o : IsTota
       → filter kept (choose r (x ∷ y ∷ ys) (x ∷ ys) (y ∷ put place R x ys))
       ≡ put place R x (filter kept (y ∷ ys))) [
         | Less ↦ (λ e.
-          let over : AllByRecursion (is_over x) (y ∷ ys) =
-              (grind arith, each_weaker (λ z. over_trans x y z e) ys h.0) in
-          let front = put_in_front x (filter kept (y ∷ ys)) (each_filter (is_over x) kept (y ∷ ys) over) in cc)
+            let over : AllByRecursion (is_over x) (y ∷ ys) =
+            (grind arith, each_weaker (λ z. over_trans x y z e) ys h.0) in
+            let front = put_in_front x (filter kept (y ∷ ys)) (each_filter (is_over x) kept (y ∷ ys) over) in cc)
         | Equal ↦ (λ e. grind (arith, Equal, alike))
         | Greater ↦ (λ e. grind (arith, Less, Equal, put_kept x ys k h.1))
       ]) refl

@@ -46,13 +46,17 @@ on_page size c m positive rise i =
     × (is_above member_place place_cmp (Some p) m ≡ true))) [
       | None ↦ (λ e. inl (subst (IsIn m) (sym (all_taken member_place place_cmp (λ p q. true) place_cmp_total size c positive e)) i))
       | Some p ↦ (λ e.
-        let there = split_there member_place place_cmp (λ p q. true) place_cmp_total size c p rise e in
-        elim (in_parts m (take size c) (drop size c) (subst (IsIn m) (sym (take-append-drop size c)) i)) [
-          | inl taken ↦ inl taken
-          | inr left ↦ inr (p, e, subst (λ p. is_above member_place place_cmp (Some p) m ≡ true) there.2
-              (in_filter (is_above member_place place_cmp (Some (member_place there.0))) m c
-              (subst (IsIn m) (sym there.4) left)).0)
-        ])
+          let there = split_there member_place place_cmp (λ p q. true) place_cmp_total size c p rise e in
+          elim (in_parts m (take size c) (drop size c) (subst (IsIn m) (sym (take-append-drop size c)) i)) [
+            | inl taken ↦ inl taken
+            | inr left ↦ inr (
+              p,
+              e,
+              subst (λ p. is_above member_place place_cmp (Some p) m ≡ true) there.2
+                  (in_filter (is_above member_place place_cmp (Some (member_place there.0))) m c
+                  (subst (IsIn m) (sym there.4) left)).0,
+            )
+          ])
     ]) refl
 
 module _ (kept : AllAreKept) (added_only : AddedOnlyAdd) (q : QueryValue) (none : q.collapse ≡ None) (size : ℕ)
@@ -76,13 +80,13 @@ module _ (kept : AllAreKept) (added_only : AddedOnlyAdd) (q : QueryValue) (none 
       elim (on_page size (above q after indexes) m positive (above_rise q after indexes) i) [
         | inl here ↦ in_left m page.members _ (grind arith)
         | inr later ↦
-          let next_is : page.next ≡ Some later.0 = ap (λ (g : Page Member PlaceValue). g.next) (h.0 ∙ is) ∙ later.1 in
-          let more = subst (λ (next : Option PlaceValue). MatchOption next (pages ≡ []) (λ p. (added : List (List Member))
-              × ArePagesMeanwhile q size (Some p) (indexes ++ added) pages)) next_is h.1 in
-          let asked = in_filter (is_above member_place place_cmp after) m (selected q (collection indexes)) i in
-          let still = filter_in (is_above member_place place_cmp (Some later.0)) m
-              (selected q (collection (indexes ++ more.0))) (added_only q indexes more.0 m asked.1) later.2 in
-          in_right m page.members (flat_map (λ page. page.members) pages) (rest later.0 more.0 more.1 m still)
+            let next_is : page.next ≡ Some later.0 = ap (λ (g : Page Member PlaceValue). g.next) (h.0 ∙ is) ∙ later.1 in
+            let more = subst (λ (next : Option PlaceValue). MatchOption next (pages ≡ []) (λ p. (added : List (List Member))
+            × ArePagesMeanwhile q size (Some p) (indexes ++ added) pages)) next_is h.1 in
+            let asked = in_filter (is_above member_place place_cmp after) m (selected q (collection indexes)) i in
+            let still = filter_in (is_above member_place place_cmp (Some later.0)) m
+            (selected q (collection (indexes ++ more.0))) (added_only q indexes more.0 m asked.1) later.2 in
+            in_right m page.members (flat_map (λ page. page.members) pages) (rest later.0 more.0 more.1 m still)
       ]
 
 pub growing_loses_none : AllAreKept → AddedOnlyAdd → GrowingLosesNone

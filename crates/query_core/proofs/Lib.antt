@@ -9,6 +9,7 @@ pub mod ComposeLemmas
 pub mod PageIndexes
 pub mod DropLemmas
 pub mod GrowingLemmas
+pub mod TurnLemmas
 pub mod PageChains
 pub mod PageRows
 pub mod NothingLemmas

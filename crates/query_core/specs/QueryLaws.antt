@@ -60,6 +60,19 @@ PagesRise = (q : QueryValue) (lines : List Member) (sizes : List ℕ) (pages : L
     → Rises member_place place_cmp (flat_map (λ page. page.members) pages)
     × AllByRecursion (λ m. is_wanted q q.resume m ≡ true) (flat_map (λ page. page.members) pages)
 
+-- The pages of a query that is asked again and again, each time for so many captures after the place that the page
+-- before gives.
+abbrev pub AreAskedInTurn : QueryValue → ℕ → List Member → Option PlaceValue → List (Page Member PlaceValue) → Type 0
+AreAskedInTurn q size lines after [] = ⊥
+AreAskedInTurn q size lines after (page ∷ pages) =
+    (page ≡ query_page (record q { resume = after; limit = Some size }) lines)
+    × MatchOption page.next (pages ≡ []) (λ next. AreAskedInTurn q size lines (Some next) pages)
+
+-- they are the chain of pages of that size
+abbrev pub AskedAreChain : Type 0
+AskedAreChain = (q : QueryValue) (size : ℕ) (lines : List Member) (pages : List (Page Member PlaceValue))
+    → AreAskedInTurn q size lines q.resume pages ↔ IsQueryChain q lines (size ∷ []) pages
+
 -- Pages of a query, one after another, each of so many captures after the place that the one before gives, over indexes
 -- that grow meanwhile: further indexes follow those that were there.
 abbrev pub ArePagesMeanwhile : QueryValue → ℕ → Option PlaceValue → List (List Member) → List (Page Member PlaceValue)

@@ -11,7 +11,7 @@ ghost use Rattle.query_core.specs.PageLines.{EmptyLineIsBeforeKey, JsonLinesBegi
 ghost use Rattle.query_core.specs.PageLines.{NoPageHasFaults, OneFieldHasMarks, OneFieldHasNoSpace};
 ghost use Rattle.query_core.specs.PageLines.{TwoFieldsBeginAsRefusals};
 ghost use Rattle.query_core.specs.QueryLaws.{AddedOnlyAdd, AllAreKept, CdxjPageIsIndex};
-ghost use Rattle.query_core.specs.QueryLaws.{GrowingLosesNone};
+ghost use Rattle.query_core.specs.QueryLaws.{AskedAreChain, GrowingLosesNone};
 ghost use Rattle.query_core.specs.QueryLaws.{KeysContinue, NamesNameFields, NoLineIsAtFault};
 ghost use Rattle.query_core.specs.QueryLaws.{PagesRise, SelectedAreFirst, SelectedRise};
 
@@ -32,6 +32,12 @@ pub fn added_indexes_only_add()
 {
     pages_are_selected();
 }
+
+/// A query that is asked again and again with a limit, each time after the place that the page before gives, has the
+/// pages that `pages` has with that limit as its one size.
+pub fn queries_in_turn_are_the_chain()
+    ensures { AskedAreChain }
+{}
 
 /// Who asks for one page after another, each with the resume key of the one before, misses no capture of the indexes as
 /// they were at first, if the query collapses nothing: what is added to the indexes meanwhile takes nothing away.

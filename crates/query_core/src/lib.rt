@@ -28,10 +28,11 @@ pub use crate::checking::check;
 pub use crate::fault::AnswerFault;
 pub use crate::laws::{
     added_indexes_only_add, answer_writes_one_text, appended_condition_selects_nothing,
-    cdxj_pages_are_indexes, dropped_files_leave_the_rest, indexes_have_no_line_at_fault, limits_are_these, merge_writes_one_text,
-    merged_lines_are_an_index, merges_compose, names_name_fields, pages_are_selected, pages_of_growing_indexes_lose_none, pages_rise,
-    pages_write_one_text, replies_are_told_from_pages, replies_over_indexes_are_one,
-    resume_keys_continue,
+    cdxj_pages_are_indexes, dropped_files_leave_the_rest, indexes_have_no_line_at_fault,
+    limits_are_these, merge_writes_one_text, merged_lines_are_an_index, merges_compose,
+    names_name_fields, pages_are_selected, pages_of_growing_indexes_lose_none, pages_rise,
+    pages_write_one_text, queries_in_turn_are_the_chain, replies_are_told_from_pages,
+    replies_over_indexes_are_one, resume_keys_continue,
 };
 pub use crate::merging::{SOURCES_LIMIT, merge};
 pub use crate::paging::pages;

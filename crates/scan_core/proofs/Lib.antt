@@ -2,3 +2,4 @@ pub mod ArchiveLemmas
 pub mod WantLemmas
 pub mod ScanLemmas
 pub mod DropLemmas
+pub mod RowLemmas

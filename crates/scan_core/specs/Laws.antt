@@ -7,18 +7,24 @@ use Rattle.std.specs.List.{AllByRecursion}
 use Rattle.warc_core.specs.Kind.{Kind}
 use Rattle.warc_core.specs.declared.fault.Cause.TheVariants as causes
 use Rattle.capture_core.specs.declared.fault.CaptureFault.TheVariants as capture
-use Rattle.capture_core.specs.CaptureAnswer.{usual_limits}
+use Rattle.capture_core.specs.CaptureAnswer.{Limits, usual_limits}
 use Rattle.index_core.specs.declared.fault.IndexFault.TheVariants as index
+use Rattle.archives.specs.Form.{plain}
 use Rattle.archives.specs.Packing.{form_of}
 use Rattle.archives.specs.State.{ToldArchive}
 use Rattle.index_core.specs.Accepted.{IsAcceptedWhole}
+use Rattle.index_core.specs.FetchingLaws.{IsFetched}
+use Rattle.index_core.specs.Laws.{IsIndexed}
+use Rattle.cdxj_places.specs.Rising.{IsIn}
 use Rattle.cdxj_core.specs.Entries.{EntryValue}
+use Rattle.cdxj_core.specs.Members.{Member, entry_member}
 use Rattle.index_core.specs.Indexing.{AreNamed, index_text}
 use Rattle.merge_core.specs.Collections.{Known, collection}
 use Rattle.merge_core.specs.Written.{lines_text}
 use Rattle.query_text.specs.declared.fault.QueryFault.TheVariants as refusal
 use Rattle.query_text.specs.Queries.{QueryValue}
 use Rattle.query_core.specs.MergeLaws.{of_files}
+use Rattle.query_core.specs.QueryPages.{selected}
 use Rattle.query_core.specs.declared.fault.AnswerFault.TheVariants as answer
 use Rattle.scan_core.specs.declared.fault.ScanFault.{ScanFault}
 use Rattle.scan_core.specs.declared.fault.ScanFault.TheVariants.{Query, Archive, Answer}
@@ -75,6 +81,14 @@ RemovedIsDropped = (name : List ℕ) (before : List (List EntryValue)) (removed 
     (after : List (List EntryValue)) → AreNamed name removed → AreOfOthers name (all_captures (before ++ after))
     → of_files (λ file. not (bytes_eq name file)) (captured_lines (before ++ removed ∷ after))
     ≡ captured_lines (before ++ after)
+
+-- A line that a query selects of the index of an archive is that of a capture, whose record both forms of `get` write.
+abbrev pub SelectedAreFetched : Type 0
+SelectedAreFetched = (types : Kind → Bool) (limits : Limits) (limit : ℕ) (name archive : List ℕ)
+    (captures : List EntryValue) (q : QueryValue) (m : Member)
+    → IsIndexed types limits (plain limit) name archive captures
+    → IsIn m (selected q (collection (index_members captures ∷ [])))
+    → (e : EntryValue) × (m ≡ entry_member e) × IsFetched limit archive e
 
 -- where nothing is at fault and no device failed, a scan is refused only for want of memory
 abbrev pub OnlyMemoryIsWanting : Type 0

@@ -3,9 +3,12 @@ ghost use Rattle.std.specs.Prelude.{◌≡◌};
 ghost use Rattle.capture_core.specs.CaptureAnswer.{usual_limits};
 ghost use Rattle.warc_core.specs.declared.next.TheConstants.{HEAD_LIMIT};
 ghost use Rattle.scan_core.specs.Laws.{IndexIsMerge, OnlyMemoryIsWanting, RemovedIsDropped, ScanIsOne};
+ghost use Rattle.scan_core.specs.Laws.{SelectedAreFetched};
 ghost use Rattle.scan_core.specs.Laws.{ScanIsOverIndex};
 
-use index_core::{accepted_archive_is_not_refused, archive_has_one_list_of_captures};
+use index_core::{
+    accepted_archive_is_not_refused, archive_has_one_list_of_captures, both_forms_of_get_agree,
+};
 
 /// A scan of archives that are accepted whole, with distinct names, good sizes and a good query, over inputs whose
 /// bytes are known and devices that don't fail, is refused only for lack of memory, or for a key that is too long.
@@ -27,6 +30,14 @@ pub fn index_of_archives_is_merge()
 pub fn removed_archive_is_dropped()
     ensures { RemovedIsDropped }
 {}
+
+/// What a query selects of the index of a plain archive can be fetched: at the offset of the line stands a record of its
+/// length, and both forms of `get` write that record.
+pub fn selected_records_are_fetched()
+    ensures { SelectedAreFetched }
+{
+    both_forms_of_get_agree();
+}
 
 /// The pages of a scan are those of the index of all its archives: `scan` writes what `index` and `pages` write.
 #[tactic(auto, using(crate::proofs::ScanLemmas::scan_is_over_index))]

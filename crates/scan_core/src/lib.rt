@@ -13,6 +13,7 @@ pub use crate::fault::ScanFault;
 pub use crate::laws::{
     accepted_archives_are_scanned, index_of_archives_is_merge, limits_of_archives_are_these,
     removed_archive_is_dropped, scan_is_index_and_pages, scan_writes_one_text,
+    selected_records_are_fetched,
 };
 pub use crate::named::Named;
 pub use crate::scanning::scan;
