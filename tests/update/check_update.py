@@ -8,6 +8,7 @@ strace and python3-tqdm; without these they are left out. The moments at which r
 """
 import contextlib
 import importlib.util
+import json
 import os
 import pathlib
 import pty
@@ -235,6 +236,9 @@ def a_further_run_indexes_what_is_new(program: pathlib.Path, folder: pathlib.Pat
     trial.forget()
     for words, last in (((), "keep"), (("--remove", "1"), "remove")):
         dry = subprocess.run(trial.command("--dry-run", *words), stdout=subprocess.PIPE, check=True).stdout.decode()
+        lines = subprocess.run(trial.command("--dry-run", "--json", *words), stdout=subprocess.PIPE, check=True).stdout.splitlines()
+        shown = "".join(f"{line['action']} {line['archive']}\n" for line in map(json.loads, lines))
+        expect("what would be done, in JSON", shown, dry)
         expect("what would be done", dry, f"index 05.warc\nindex 09.warc\nindex 11.warc\nindex new.warc\n{last} 03.warc\n")
     expect("status", trial.run("--remove", "1"), 1)
     expect("archives", {name for _, name in trial.begun}, {"05.warc", "09.warc", "11.warc", "new.warc"})

@@ -1,0 +1,95 @@
+"""What all commands have in common: help, version, usage errors, places of options, and the version of Python."""
+import pathlib
+import re
+import subprocess
+import sys
+import unittest
+
+from warcdx.command import TASKS
+
+from .support import PROGRAM, SAMPLES, Case
+
+PYTHON = pathlib.Path(__file__).resolve().parents[1]
+COMMANDS = sorted((PYTHON / "bin").iterdir())
+GATEWAY = PYTHON.parent / "gateway/bin/warcdx-gateway"
+VERSION = (PYTHON / "VERSION").read_text().strip()
+# Runs a script as if this Python had another version.
+AS_PYTHON = """
+import runpy, sys
+sys.version_info, sys.argv = (%d, %d, 1, "final", 0), sys.argv[1:]
+runpy.run_path(sys.argv[0], run_name="__main__")
+"""
+
+
+class Runs(Case):
+    def run_command(self, *command: object, **environment: str) -> "tuple[int, str, str]":
+        done = subprocess.run(list(map(str, command)), cwd=self.folder, capture_output=True, text=True, env=environment or None)
+        return done.returncode, done.stdout, done.stderr
+
+
+class Manner(Runs):
+    def test_help_names_the_other_commands(self) -> None:
+        for path in COMMANDS:
+            status, found, said = self.run_command(sys.executable, path, "-h")
+            self.assertEqual((0, found, said), self.run_command(sys.executable, path, "--help"))
+            named = found.partition("Other commands:\n")[2]
+            self.assertEqual([name for name in TASKS if name != path.name], [line[2:].split("  ")[0] for line in named.splitlines()])
+            self.assertEqual((0, ""), (status, said))
+
+    def test_the_tasks_are_those_of_the_page(self) -> None:
+        page = (PYTHON.parent / "docs/COMMANDS.md").read_text()
+        rows = re.findall(r"^\| ((?:`warcdx[a-z-]*`(?:, )?)+) \| ([^|]*) \|", page, re.MULTILINE)[: len(TASKS)]
+        self.assertEqual({name.replace("`", ""): task for name, task in rows}, TASKS)
+
+    def test_the_version(self) -> None:
+        for path in COMMANDS:
+            for word in ("-V", "--version"):
+                self.assertEqual((0, f"{path.name} {VERSION}\n", ""), self.run_command(sys.executable, path, word))
+
+    def test_a_usage_error_is_one_line_that_names_help(self) -> None:
+        for path in COMMANDS:
+            for words in ((), ("--no-such-option",), ("--program",)):
+                status, found, said = self.run_command(sys.executable, path, *words)
+                self.assertEqual((2, ""), (status, found))
+                self.assertRegex(said, rf"\A{path.name}: error: .*; '{path.name} --help' has the arguments\n\Z")
+
+    def test_options_stand_before_or_behind_files(self) -> None:
+        archive, names = SAMPLES / "wget.warc", [f"--program={PROGRAM}", "--quiet"]
+        command = (sys.executable, PYTHON / "bin/warcdx-verify")
+        for words in ((*names, archive), (archive, *names), (names[0], archive, names[1])):
+            self.assertEqual((0, "", ""), self.run_command(*command, *words))
+        index = self.put("")
+        command = (sys.executable, PYTHON / "bin/warcdx-cdx")
+        wanted = (0, " CDX N b a m s k r M S V g\n", "")
+        for words in (("to", index, names[0]), (names[0], "to", index), ("to", names[0], index, index), ("to", index, names[0], index)):
+            self.assertEqual(wanted, self.run_command(*command, *map(str, words)))
+
+
+class OldPython(Runs):
+    def put_python(self, name: str) -> None:
+        path = self.put('#!/bin/sh\necho "$0" "$@"\n', name)
+        path.chmod(0o755)
+
+    def run_as(self, version: "tuple[int, int]", script: pathlib.Path) -> "tuple[int, str, str]":
+        return self.run_command(sys.executable, "-c", AS_PYTHON % version, script, "--help", PATH=str(self.folder))
+
+    def test_a_sentence_says_which_version_is_needed(self) -> None:
+        for script, version, wanted in ((COMMANDS[0], (3, 8), "3.9"), (GATEWAY, (3, 8), "3.11"), (GATEWAY, (3, 10), "3.11")):
+            said = f"{script.name}: it needs Python {wanted} or later, and {sys.executable} is Python {version[0]}.{version[1]}\n"
+            self.put_python("python3.8")
+            self.assertEqual((3, "", said), self.run_as(version, script))
+
+    @unittest.skipIf(sys.prefix != sys.base_prefix, "a virtual environment has one Python alone")
+    def test_a_newer_one_of_the_path_runs_the_command(self) -> None:
+        for name in ("python3.10", "python3.12", "python3.13"):
+            self.put_python(name)
+        for script, version, wanted in (
+            (COMMANDS[0], (3, 8), "python3.10"),
+            (GATEWAY, (3, 8), "python3.12"),
+            (GATEWAY, (3, 10), "python3.12"),
+        ):
+            self.assertEqual((0, f"{self.folder}/{wanted} {script} --help\n", ""), self.run_as(version, script))
+
+
+if __name__ == "__main__":
+    unittest.main()
