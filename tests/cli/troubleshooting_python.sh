@@ -13,6 +13,14 @@ shows "no program" "no such program" run_python verify --program nosuch response
 shows "another program" "not the program warcdx" run_python verify --program /bin/true response.warc
 shows "an old program" "is needed" run_python verify --program ./old response.warc
 
+row "\`it needs Python\`"
+old_python() {
+    PATH=/nonexistent /usr/bin/python3 -c 'import runpy, sys
+sys.version_info, sys.argv = (3, 8, 0, "final", 0), sys.argv[1:]
+runpy.run_path(sys.argv[0], run_name="__main__")' "$root/python/bin/warcdx-verify" --help
+}
+shows "an old Python" "it needs Python 3.9 or later" old_python
+
 row "\`warcdx has ended with\`, \`warcdx-gz has ended with\`"
 # shellcheck disable=SC2016 # the other shell expands it
 printf '#!/bin/sh\n[ "$1" != --help ] || exec "%s" "$@"\nkill -9 $$\n' "$program" > killed
