@@ -229,6 +229,21 @@ check_wheel() {
     expect "wheel: what is left of it" "" "$(find "$environment" -name '*warcdx*')"
 }
 
+# The gateway of the wheel, in an environment that has the packages of the extra from Debian.
+check_wheel_gateway() {
+    local environment=$work/served server
+    if ! /usr/bin/python3 -c 'import brotli, gunicorn, prometheus_client, regex, werkzeug' 2> "$work/output"; then return; fi
+    /usr/bin/python3 -m venv --system-site-packages "$environment"
+    check_command "wheel: the extra for the gateway" "$environment/bin/pip" install --no-index --quiet --disable-pip-version-check "${wheel}[gateway]"
+    env --ignore-environment HOME="$work" PATH=/usr/bin:/bin "$environment/bin/warcdx-gateway" --port 0 --workers 2 --indexes "$work/wheel.cdxj" > "$work/address" 2>&1 &
+    server=$!
+    for _ in {1..200}; do if [ -s "$work/address" ]; then break; else sleep 0.1; fi; done
+    expect "wheel: an answer of the gateway" 410 "$(/usr/bin/python3 -c 'import sys, urllib.request; print(urllib.request.urlopen(sys.argv[1]).read().decode())' \
+        "$(head --lines=1 "$work/address")cdx?url=127.0.0.1:8000/odd/gone&fl=statuscode" 2>&1)"
+    kill "$server"
+    wait "$server" || true
+}
+
 in_environment() { # COMMAND ARGUMENT..
     env --ignore-environment HOME="$work" PATH=/usr/bin:/bin PYTHONDONTWRITEBYTECODE=1 "$work/environment/bin/$1" "${@:2}" 2>&1
 }
@@ -298,6 +313,7 @@ check_tar_file
 check_programs
 check_debian_package
 check_wheel
+check_wheel_gateway
 check_planted_modules
 if [ -z "$draft" ]; then check_command "the libraries in NOTICE, and the address in CONTACT" "$root/tools/check_notice.py" --contact; fi
 if [ $# -ge 2 ]; then check_same_again "${@:2}"; fi

@@ -66,6 +66,7 @@ def scripts_of(program: pathlib.Path) -> tuple[Script, ...]:
     return (
         Script("warcdx-verify", verify, (*of_warcdx, "digests.warc.gz"), "digests.warc.gz"),
         Script("warcdx-verify of a plain archive", verify, (*of_warcdx, "digests.warc"), "digests.warc"),
+        Script("warcdx-verify of standard input", verify, (*of_warcdx, "-"), reads="digests.warc.gz"),
         Script(
             "warcdx-verify of two at a time", verify, (*of_warcdx, "--jobs", "2", "digests.warc.gz", "digests.warc"), most_lines=2
         ),
