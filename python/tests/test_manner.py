@@ -1,11 +1,15 @@
 """What all commands have in common: help, version, usage errors, places of options, and the version of Python."""
 import pathlib
 import re
+import signal
 import subprocess
 import sys
 import unittest
+from types import FrameType
+from typing import Any
 
-from warcdx.command import TASKS
+from warcdx.command import TASKS, Parser
+from warcdx.ending import Ended
 
 from .support import PROGRAM, SAMPLES, Case
 
@@ -56,13 +60,49 @@ class Manner(Runs):
     def test_options_stand_before_or_behind_files(self) -> None:
         archive, names = SAMPLES / "wget.warc", [f"--program={PROGRAM}", "--quiet"]
         command = (sys.executable, PYTHON / "bin/warcdx-verify")
-        for words in ((*names, archive), (archive, *names), (names[0], archive, names[1])):
+        for words in (
+            (*names, archive), (archive, *names), (names[0], archive, names[1]), ("--program", PROGRAM, archive, "--quiet"),
+            (archive, "--quiet", "--program", PROGRAM, archive), (archive, *names, "--", archive), (*names, "--", archive),
+        ):  # fmt: skip
             self.assertEqual((0, "", ""), self.run_command(*command, *words))
+        status, found, said = self.run_command(*command, archive, archive, "-o")
+        self.assertEqual((2, ""), (status, found))
+        self.assertIn("-o/--output: expected one argument", said)
         index = self.put("")
         command = (sys.executable, PYTHON / "bin/warcdx-cdx")
         wanted = (0, " CDX N b a m s k r M S V g\n", "")
         for words in (("to", index, names[0]), (names[0], "to", index), ("to", names[0], index, index), ("to", index, names[0], index)):
             self.assertEqual(wanted, self.run_command(*command, *map(str, words)))
+
+
+class Signals(unittest.TestCase):
+    def test_a_signal_while_arguments_are_read(self) -> None:
+        """Whenever it comes, what it raises is raised."""
+        parser = Parser("command")
+        parser.add_output("FILE", "a file")
+        parser.add_argument("files", nargs="*")
+        calls, words = 0, ["a", "-o", "b", "c"]
+
+        def trace(frame: FrameType, event: str, argument: Any) -> Any:
+            nonlocal calls
+            calls -= 1
+            if not calls:
+                raise Ended(signal.SIGTERM)
+            return trace
+
+        for number in range(1, 5000):
+            calls, usual = number, sys.gettrace()
+            sys.settrace(trace)
+            try:
+                given = parser.parse(words)
+            except Ended:
+                continue
+            finally:
+                sys.settrace(usual)
+            self.assertEqual((["a", "c"], "b"), (given.files, given.output))
+            self.assertGreater(number, 100)
+            return
+        self.fail("it doesn't end")
 
 
 class OldPython(Runs):

@@ -219,7 +219,7 @@ class Resume(Runs):
                 Notes(str(self.folder / "notes"))
             self.assertEqual(text, (self.folder / "notes").read_bytes())
         found = self.run_command("--resume", "b.warc", "a.warc")
-        self.assertEqual(([], ["warcdx-verify: b.warc isn't a file of --resume, and stays as it is"], 3), found)
+        self.assertEqual(([], ["warcdx-verify: b.warc isn't a file of --resume, and stays as it is: give another name"], 3), found)
         self.assertEqual({"a.warc", "b.warc", "notes"}, set(os.listdir(self.folder)))
         self.assertEqual(GOOD, (self.folder / "b.warc").read_bytes())
 

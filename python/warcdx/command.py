@@ -2,6 +2,7 @@
 import argparse
 import contextlib
 import io
+import itertools
 import os
 import re
 import sys
@@ -65,8 +66,25 @@ class Parser(argparse.ArgumentParser):
         for number, word in enumerate(words, 1):
             if not is_text(word):
                 self.error(f"argument {number} isn't UTF-8")
-        # Options may follow files, unless `--` ends the options, which Python can't have both.
-        return self.parse_args(words) if "--" in words else self.parse_intermixed_args(words)
+        return self.parse_args(self._in_order(words))
+
+    def _in_order(self, words: Sequence[str]) -> Sequence[str]:
+        """Returns the words with all files in one row, as argparse needs them.
+
+        Its own parse_intermixed_args raises another exception for one that a signal raises within.
+        """
+        if any(action.nargs == argparse.ONE_OR_MORE and action.option_strings for action in self._actions):
+            return words  # an option that takes files takes all that follow it
+        rest, files, options = iter(words), list[str](), list[str]()
+        for word in rest:
+            if word == "--":
+                return [*options, word, *files, *rest]
+            is_option = word.startswith("-") and word != "-"
+            (options if is_option else files).append(word)
+            action = self._option_string_actions.get(word)
+            if action is not None and action.nargs is None:
+                options.extend(itertools.islice(rest, 1))
+        return [*files, *options]
 
     def error(self, message: str) -> NoReturn:
         report(self.prog, f"error: {printable(message)}; '{self.prog} --help' has the arguments")

@@ -45,7 +45,7 @@ class Notes:
         with open(self._file, "rb", closefd=False) as file:
             form = file.readline(_MOST_LINE)
             if form not in (b"", _FORM):
-                raise CannotResume(f"{printable(path)} isn't a file of --resume, and stays as it is")
+                raise CannotResume(f"{printable(path)} isn't a file of --resume, and stays as it is: give another name")
             while line := file.readline(_MOST_LINE):
                 self._take(line)
         self._unwritten = b"" if form else _FORM

@@ -36,7 +36,7 @@ row "\`it is a revisit, and no index has its original\`"
 row "\`it is there, and isn't replaced\`"
 : > there
 shows "a file" "it is there, and isn't replaced" run_python fetch --program "$program" --index response.cdxj --archives "$root/samples" -o there http://example.com/
-row "\`isn't a file of --resume, and stays as it is\`, \`isn't a regular file\`"
+row "\`isn't a file of --resume, and stays as it is: give another name\`, \`isn't a regular file\`"
 echo other > notes
 shows "a file of another program" "isn't a file of --resume, and stays as it is" run_python verify --program "$program" --resume notes "$root/samples/wget.warc"
 shows "a folder" "isn't a regular file" run_python verify --program "$program" --resume . "$root/samples/wget.warc"
@@ -66,7 +66,7 @@ update() { # ARGUMENT..
     run_python update --program "$program" --quiet "$@"
 }
 
-row "\`as it is, and it isn't replaced\`, \`isn't a regular file, and isn't replaced\`"
+row "\`as it is, and it isn't replaced: give another INDEX\`, \`isn't a regular file, and isn't replaced\`"
 echo x > text
 shows "another file" "as it is, and it isn't replaced" update folder text
 mkfifo indexpipe
