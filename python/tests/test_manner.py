@@ -1,4 +1,6 @@
 """What all commands have in common: help, version, usage errors, places of options, and the version of Python."""
+import gzip
+import os
 import pathlib
 import re
 import signal
@@ -11,7 +13,7 @@ from typing import Any
 from warcdx.command import TASKS, Parser
 from warcdx.ending import Ended
 
-from .support import PROGRAM, SAMPLES, Case
+from .support import PROGRAM, SAMPLES, Case, lines
 
 PYTHON = pathlib.Path(__file__).resolve().parents[1]
 COMMANDS = sorted((PYTHON / "bin").iterdir())
@@ -73,6 +75,54 @@ class Manner(Runs):
         wanted = (0, " CDX N b a m s k r M S V g\n", "")
         for words in (("to", index, names[0]), (names[0], "to", index), ("to", names[0], index, index), ("to", index, names[0], index)):
             self.assertEqual(wanted, self.run_command(*command, *map(str, words)))
+
+
+class Messages(Runs):
+    """Of usual mistakes, a line says what is wrong, where, and what to do."""
+
+    def test_a_file_of_another_kind(self) -> None:
+        for name, text in (
+            ("a.wacz", b"PK\x03\x04" + bytes(100)), ("a.html", b"<!doctype html><p>x"), ("a.warc", (SAMPLES / "response.warc").read_bytes()),
+            ("a.cdx.gz", gzip.compress(b"x")), ("a.warc.gz", gzip.compress((SAMPLES / "wget.warc").read_bytes())),
+        ):  # fmt: skip
+            (self.folder / name).write_bytes(text)
+        index = self.put(lines(1), "a.cdxj")
+        for words, wanted in (
+            (("verify", "a.wacz"), "a.wacz: It is a ZIP file, as a WACZ file is: "),
+            (("verify", "--quiet", "a.html"), "a.html: It seems to be an HTML or XML file"),
+            (("verify", "a.warc.gz"), "a.warc.gz: Each record has to be a member of gzip of its own: "),
+            (("verify", index), f"{index}: It seems to be an index: warcdx query reads indexes."),
+            (("cdx", "to", "a.warc"), "a.warc: BadLine 0: It is a WARC file: "),
+            (("cdx", "from", "a.cdx.gz"), "a.cdx.gz: line 1: it has 1 column, and not 11 or 9; a header names other columns: It is compressed by gzip: "),
+            (("cdx", "from", index), "a header names other columns: It is an index: warcdx-cdx to reads indexes."),
+            (("fetch", "--index", "a.warc", "http://example.com/"), "a.warc: BadLine 0: It is a WARC file: "),
+        ):  # fmt: skip
+            status, _, said = self.run_on_program(*words)
+            self.assertEqual(1, status, words)
+            self.assertIn(wanted, said)
+
+    def test_what_is_not_there(self) -> None:
+        index = self.put(lines(1), "a.cdxj")
+        for words, wanted in (
+            (("verify", "nosuch"), "nosuch: cannot open (No such file or directory)"),
+            (("verify", "."), ".: cannot open (Is a directory); name the archives in it"),
+            (("cdx", "to", "."), ".: cannot open (Is a directory)"),
+            (("fetch", "--index", index, "http://example.com/0000000"), "; --archives FOLDER names the folder of the archives"),
+        ):
+            status, _, said = self.run_on_program(*words)
+            self.assertEqual((3, 1), (status, said.count("\n")), words)
+            self.assertIn(wanted, said)
+        command = (sys.executable, PYTHON / "bin/warcdx-verify", "--program", "nosuch", index)
+        said = "warcdx-verify: nosuch: no such program; --program PROGRAM names another one\n"
+        self.assertEqual((3, "", said), self.run_command(*command))
+
+    def test_several_archives_for_one_folder(self) -> None:
+        status, found, said = self.run_on_program("update", "a.warc", "b.warc", "all.cdxj")
+        self.assertEqual((2, ""), (status, found))
+        self.assertIn("give one FOLDER, whose archives are found, and one INDEX", said)
+
+    def run_on_program(self, name: str, *words: object) -> "tuple[int, str, str]":
+        return self.run_command(sys.executable, PYTHON / f"bin/warcdx-{name}", "--program", os.path.abspath(PROGRAM), *words)
 
 
 class Signals(unittest.TestCase):
