@@ -235,8 +235,8 @@ def a_further_run_indexes_what_is_new(program: pathlib.Path, folder: pathlib.Pat
     expect("time", (trial.archives / "11.warc").stat().st_mtime_ns, same)
     trial.forget()
     for words, last in (((), "keep"), (("--remove", "1"), "remove")):
-        dry = subprocess.run(trial.command("--dry-run", *words), stdout=subprocess.PIPE, check=True).stdout.decode()
-        lines = subprocess.run(trial.command("--dry-run", "--json", *words), stdout=subprocess.PIPE, check=True).stdout.splitlines()
+        dry = subprocess.run(trial.usual_command("--dry-run", *words), stdout=subprocess.PIPE, check=True).stdout.decode()
+        lines = subprocess.run(trial.command("--dry-run", *words), stdout=subprocess.PIPE, check=True).stdout.splitlines()
         shown = "".join(f"{line['action']} {line['archive']}\n" for line in map(json.loads, lines))
         expect("what would be done, in JSON", shown, dry)
         expect("what would be done", dry, f"index 05.warc\nindex 09.warc\nindex 11.warc\nindex new.warc\n{last} 03.warc\n")
