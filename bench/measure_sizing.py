@@ -118,7 +118,7 @@ def archive_times(program: pathlib.Path, folder: pathlib.Path) -> list[Size]:
     found = []
     archive, packed = folder / "long.warc", folder / "long.warc.gz"
     index_packed = find_packed_program(program), "index", packed
-    verify_packed = COMMANDS / "warcdx-verify", "--warcdx", program, packed
+    verify_packed = COMMANDS / "warcdx-verify", "--program", program, packed
     for title, name in (("with", "WARC-Payload-Digest"), ("without", "X-Payload-Digest")):
         crawl = Crawl(LONG_CAPTURES, LONG_PAGE, name)
         write_archive(crawl, archive)
@@ -134,7 +134,7 @@ def archive_times(program: pathlib.Path, folder: pathlib.Path) -> list[Size]:
 def cdx_times(program: pathlib.Path, folder: pathlib.Path) -> list[Size]:
     """Processor time of converting an index to CDX and back, over that of sorting its lines."""
     index, cdx = folder / "short.cdxj", folder / "short.cdx"
-    command = COMMANDS / "warcdx-cdx", "--warcdx", program
+    command = COMMANDS / "warcdx-cdx", "--program", program
     with open(cdx, "wb") as output:
         subprocess.run((*command, "to", index), stdout=output, check=True)
     sorting = "env", "LC_ALL=C", "sort", "--parallel=1", index
@@ -150,7 +150,7 @@ def folder_sizes(program: pathlib.Path, folder: pathlib.Path) -> list[Size]:
     archives.mkdir()
     for number in range(4):
         os.link(folder / "short.warc", archives / f"{number}.warc")
-    command = COMMANDS / "warcdx-update", "--quiet", "--warcdx", program, archives, index
+    command = COMMANDS / "warcdx-update", "--quiet", "--program", program, archives, index
     subprocess.run(tuple(map(str, command)), check=True)
     runs = sum(path.lstat().st_size for path in (folder / "all.cdxj.d").rglob("*"))
     again = processor_time(command)

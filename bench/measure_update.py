@@ -58,7 +58,7 @@ class Trial:
     def __init__(self, folder: pathlib.Path, program: pathlib.Path, command: pathlib.Path, is_folder: bool) -> None:
         self.archives = folder / "archives"
         self.index = folder / (f"{command.parent.parent.parent.name}.d" if is_folder else f"{command.parent.parent.parent.name}.cdxj")
-        self._words = (command, "--quiet", "--warcdx", program)
+        self._words = (command, "--quiet", "--program", program)
 
     def update(self, *words: object) -> Cost:
         return cost_of((*self._words, *words, self.archives, self.index))

@@ -1,20 +1,32 @@
 # Completion of the words of warcdx-cdx for bash.
 
 _warcdx_cdx() {
-    local word=${COMP_WORDS[COMP_CWORD]} first=1
+    local word=${COMP_WORDS[COMP_CWORD]} command='' before offered
     COMPREPLY=()
-    if [[ ${COMP_WORDS[1]} == --warcdx ]]; then first=3; fi
-    if ((COMP_CWORD == 2 && first == 3)); then
-        compopt -o default
-    elif ((COMP_CWORD == first)); then
-        if [[ $word == -* ]]; then _warcdx_cdx_offer -h --help --version --warcdx; else _warcdx_cdx_offer to from; fi
-    elif [[ $word == -* ]]; then
-        _warcdx_cdx_offer -h --help
-    elif [[ ${COMP_WORDS[first]} == to ]]; then
-        _warcdx_cdx_files '*.cdxj'
-    elif [[ ${COMP_WORDS[first]} == from ]]; then
-        _warcdx_cdx_files '*.cdx'
+    case ${COMP_WORDS[COMP_CWORD - 1]} in
+        -o | --output | --program) compopt -o default && return ;;
+    esac
+    if [[ $word == -* ]]; then
+        _warcdx_cdx_offer -h -o -V --help --output --program --version
+        return
     fi
+    # The first word that is neither an option nor its value.
+    for before in "${COMP_WORDS[@]:1:COMP_CWORD-1}"; do
+        case $before in
+            -*) offered=$before ;;
+            *)
+                case $offered in
+                    -o | --output | --program) offered='' ;;
+                    *) command=${command:-$before} ;;
+                esac
+                ;;
+        esac
+    done
+    case $command in
+        '') _warcdx_cdx_offer to from ;;
+        to) _warcdx_cdx_files '*.cdxj' ;;
+        from) _warcdx_cdx_files '*.cdx' ;;
+    esac
 }
 
 # Those that begin with the word. `compgen -W` would expand it, and so run what it substitutes.

@@ -5,11 +5,11 @@ _warcdx_fetch() {
     COMPREPLY=()
     case ${COMP_WORDS[COMP_CWORD - 1]} in
         --at) return ;;
-        -o | --output | --warcdx) compopt -o default && return ;;
+        -o | --output | --program) compopt -o default && return ;;
         --index | --archives) ;;
         *)
             # `compgen -W` would expand the word, and so run what it substitutes.
-            for offered in -h --help --all --archives --at --index --output --record --version --warcdx; do
+            for offered in -h -o -V --help --all --archives --at --index --json --output --program --quiet --record --version; do
                 if [[ $word == -* && $offered == "$word"* ]]; then COMPREPLY+=("$offered"); fi
             done
             return

@@ -5,7 +5,7 @@ _warcdx_gateway() {
     COMPREPLY=()
     if [[ $word == -* ]]; then
         # `compgen -W` would expand the word, and so run what it substitutes.
-        for offered in -h --address --archives --help --host --indexes --port --program --version --workers; do
+        for offered in -h -V --address --archives --help --host --indexes --port --program --version --workers; do
             if [[ $offered == "$word"* ]]; then COMPREPLY+=("$offered"); fi
         done
         return

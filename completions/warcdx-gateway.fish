@@ -14,7 +14,7 @@ end
 
 complete -c warcdx-gateway -f
 complete -c warcdx-gateway -s h -l help -d 'Print help'
-complete -c warcdx-gateway -l version -d 'Print the version'
+complete -c warcdx-gateway -s V -l version -d 'Print the version'
 complete -c warcdx-gateway -l address -x -d 'Listen at this address'
 complete -c warcdx-gateway -l port -x -d 'Listen at this port'
 complete -c warcdx-gateway -l host -x -d 'Accept this name in the field Host'

@@ -5,11 +5,11 @@ _warcdx_verify() {
     COMPREPLY=()
     case ${COMP_WORDS[COMP_CWORD - 1]} in
         --jobs) return ;;
-        --resume | --warcdx) compopt -o default && return ;;
+        -o | --output | --program | --resume) compopt -o default && return ;;
     esac
     if [[ $word == -* ]]; then
         # `compgen -W` would expand the word, and so run what it substitutes.
-        for offered in -h --help --jobs --quiet --resume --version --warcdx; do
+        for offered in -h -o -V --help --jobs --json --output --program --quiet --resume --version; do
             if [[ $offered == "$word"* ]]; then COMPREPLY+=("$offered"); fi
         done
         return

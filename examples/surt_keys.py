@@ -27,7 +27,11 @@ import re
 from collections.abc import Callable
 from typing import BinaryIO, Optional
 
-sys.path.insert(0, str(pathlib.Path(__file__).resolve().parents[1] / "python"))
+# The package of the checkout or of the release that has this script.
+FOLDERS = pathlib.Path(__file__).resolve().parents
+if not (PACKAGE := FOLDERS[1] / "python").is_dir() and len(FOLDERS) > 3:
+    PACKAGE = FOLDERS[3] / "warcdx/python"
+sys.path.insert(0, str(PACKAGE))
 
 try:
     from warcdx import command

@@ -1,10 +1,12 @@
-"""Builds the wheel and the source archive of the Python package, with the standard library alone.
+"""Builds the wheel and the source archive of the Python package and the gateway, with the standard library alone.
 
 usage: python3 build_backend.py PROGRAMS LIBRARY FOLDER
 
 `pip` calls the functions build_wheel, build_editable and build_sdist (PEP 517 and PEP 660), and needs no network for
 it. As a script this file writes a wheel for Linux on x86-64 to FOLDER, and prints its name. The wheel has the programs
 warcdx and warcdx-gz of the folder PROGRAMS. LIBRARY is the version of the GNU C library that they need, such as 2.34.
+
+The gateway is in the folder `gateway` beside this one, or in this one, as in a source archive.
 
 The same files make the same bytes. All times are SOURCE_DATE_EPOCH, or else the start of 1980.
 """
@@ -27,6 +29,7 @@ VERSION = (HERE / "VERSION").read_text().strip()
 INFO = f"warcdx-{VERSION}.dist-info"
 SCRIPTS = f"warcdx-{VERSION}.data/scripts"
 PROGRAMS = ("warcdx", "warcdx-gz")
+GATEWAY = HERE / "gateway" if (HERE / "gateway").is_dir() else HERE.parent / "gateway"
 FIRST_TIME = 315_532_800  # of a zip file: 1980-01-01
 METADATA = f"""\
 Metadata-Version: 2.1
@@ -39,11 +42,18 @@ Classifier: Operating System :: POSIX :: Linux
 Classifier: Programming Language :: Python :: 3 :: Only
 Classifier: Typing :: Typed
 Requires-Python: >=3.9
+Provides-Extra: gateway
+Requires-Dist: gunicorn>=20.1; extra == "gateway" and python_version >= "3.11"
+Requires-Dist: Werkzeug>=2.2; extra == "gateway" and python_version >= "3.11"
+Requires-Dist: prometheus-client>=0.16; extra == "gateway" and python_version >= "3.11"
+Requires-Dist: regex>=2022.10.31; extra == "gateway" and python_version >= "3.11"
+Requires-Dist: Brotli>=1.0.9; extra == "gateway" and python_version >= "3.11"
 Description-Content-Type: text/markdown
 
 `warcdx` queries the indexes of web archives, and reads the records of WARC files. It needs Python 3.9
 or later, and the programs `warcdx` and `warcdx-gz`, which a wheel for Linux on x86-64 has. Its
-commands are `warcdx-cdx`, `warcdx-fetch`, `warcdx-update` and `warcdx-verify`.
+commands are `warcdx-cdx`, `warcdx-fetch`, `warcdx-update` and `warcdx-verify`. `warcdx-gateway` serves
+indexes over HTTP. It needs Python 3.11 or later, and what `pip install 'warcdx[gateway]'` installs.
 
     from warcdx import Index
     for capture in Index("all.cdxj").captures(url="*.example.com", filter="statuscode:200"):
@@ -70,15 +80,17 @@ def build_wheel(folder: str, config_settings: _SETTINGS = None, metadata_directo
 
 def build_editable(folder: str, config_settings: _SETTINGS = None, metadata_directory: Optional[str] = None) -> str:
     """Writes a wheel that makes Python read the package in this folder, and returns its name."""
-    path = File("warcdx.pth", os.fsencode(f"{HERE}\n"))
+    path = File("warcdx.pth", os.fsencode(f"{HERE}\n{GATEWAY}\n"))
     return write_wheel(folder, "py3-none-any", [path, *scripts()])
 
 
 def build_sdist(folder: str, config_settings: _SETTINGS = None) -> str:
     """Writes the source archive, and returns its name."""
     names = ("LICENSE", "VERSION", "build_backend.py", "pyproject.toml")
-    files = [File("PKG-INFO", metadata()), *modules(), *(File(name, (HERE / name).read_bytes()) for name in names)]
-    files += [File(f"bin/{path.name}", path.read_bytes(), 0o755) for path in script_paths()]
+    files = [File("PKG-INFO", metadata()), *package_modules(), *(File(name, (HERE / name).read_bytes()) for name in names)]
+    files += [File(f"bin/{path.name}", path.read_bytes(), 0o755) for path in sorted((HERE / "bin").iterdir())]
+    files += [file._replace(name=f"gateway/{file.name}") for file in gateway_modules()]
+    files += [File(f"gateway/bin/{path.name}", path.read_bytes(), 0o755) for path in gateway_scripts()]
     root = f"warcdx-{VERSION}"
     output = io.BytesIO()
     with tarfile.open(fileobj=output, mode="w", format=tarfile.PAX_FORMAT) as archive:
@@ -98,19 +110,30 @@ def build_program_wheel(folder: str, programs: pathlib.Path, library: str) -> st
 
 
 def modules() -> Iterator[File]:
+    yield from package_modules()
+    yield from gateway_modules()
+
+
+def package_modules() -> Iterator[File]:
     yield File("warcdx_start.py", (HERE / "warcdx_start.py").read_bytes())
     for path in sorted((HERE / "warcdx").iterdir()):
         if path.suffix == ".py" or path.name == "py.typed":
             yield File(f"warcdx/{path.name}", path.read_bytes())
 
 
-def script_paths() -> list[pathlib.Path]:
-    return sorted(path for path in (HERE / "bin").iterdir() if path.is_file())
+def gateway_modules() -> Iterator[File]:
+    for path in sorted((GATEWAY / "warcdx_gateway").rglob("*")):
+        if path.suffix in (".py", ".css", ".svg"):
+            yield File(path.relative_to(GATEWAY).as_posix(), path.read_bytes())
+
+
+def gateway_scripts() -> Iterator[pathlib.Path]:
+    return (GATEWAY / "bin").glob("warcdx-*")
 
 
 def scripts() -> Iterator[File]:
     """Yields the commands. `pip` replaces their first line by one that names its Python."""
-    for path in script_paths():
+    for path in sorted([*(HERE / "bin").iterdir(), *gateway_scripts()], key=lambda path: path.name):
         yield File(f"{SCRIPTS}/{path.name}", _FIRST_LINE.sub(b"#!python", path.read_bytes(), count=1), 0o755)
 
 

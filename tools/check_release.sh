@@ -43,6 +43,7 @@ work=$(mktemp -d)
 trap 'rm -rf "$work"' EXIT
 prefix=$work/$name
 doc=$prefix/share/doc/warcdx
+code=$prefix/share/warcdx
 debian=$work/debian
 
 installed() { # ARGUMENT..: runs a command as a user runs it who has the release and nothing else of this repository
@@ -100,7 +101,7 @@ check_tar_file() {
     expect "checksums of the contents" "" "$(cd "$prefix" && sha256sum --quiet --check share/doc/warcdx/SHA256SUMS 2>&1)"
     expect "number of checksums" "$(find "$prefix" -type f ! -name SHA256SUMS | wc -l)" "$(wc -l < "$doc/SHA256SUMS")"
     expect "files of the repository" "" "$(differing_files << END
-share/doc/warcdx/python/bin/warcdx-update:python/bin/warcdx-update
+share/warcdx/python/bin/warcdx-update:python/bin/warcdx-update
 share/man/man1/warcdx.1:docs/warcdx.1
 share/man/man1/warcdx-gz.1:docs/warcdx-gz.1
 share/bash-completion/completions/warcdx:completions/warcdx.bash
@@ -112,12 +113,12 @@ share/doc/warcdx/CONTACT:CONTACT
 share/doc/warcdx/docs/FAQ.md:docs/FAQ.md
 share/doc/warcdx/docs/COMMANDS.md:docs/COMMANDS.md
 share/doc/warcdx/samples/wget.warc:samples/wget.warc
-share/doc/warcdx/gateway/bin/warcdx-gateway:gateway/bin/warcdx-gateway
+share/warcdx/gateway/bin/warcdx-gateway:gateway/bin/warcdx-gateway
 share/man/man1/warcdx-gateway.1:docs/warcdx-gateway.1
 share/doc/warcdx/gateway/service/warcdx-gateway.service:gateway/service/warcdx-gateway.service
-share/doc/warcdx/gateway/warcdx_gateway/server.py:gateway/warcdx_gateway/server.py
-share/doc/warcdx/python/VERSION:VERSION
-share/doc/warcdx/python/warcdx/index.py:python/warcdx/index.py
+share/warcdx/gateway/warcdx_gateway/server.py:gateway/warcdx_gateway/server.py
+share/warcdx/python/VERSION:VERSION
+share/warcdx/python/warcdx/index.py:python/warcdx/index.py
 END
 )"
     expect "licence" "" "$(diff /usr/share/common-licenses/Apache-2.0 "$doc/LICENSE" 2>&1)"
@@ -149,6 +150,9 @@ check_programs() {
     expect "a compressed archive" "0 $(stat --format=%s "$work/response.warc.gz") response" "$(installed warcdx-gz list "$work/response.warc.gz")"
     expect "files of each command" "" "$(absent_files)"
     expect "commands of the tar file" "" "$(silent_commands installed "$prefix/bin")"
+    mv "$prefix/share/doc" "$work/doc"
+    expect "commands without the documents" "" "$(silent_commands installed "$prefix/bin")"
+    mv "$work/doc" "$prefix/share/doc"
     installed warcdx index "$doc/samples/wget.warc" > "$found"
     expect "index of a sample" "$found 33" "$(installed warcdx check "$found")"
     expect "query on it" "http://127.0.0.1:8000/odd/gone 410" \
@@ -165,6 +169,7 @@ wanted_package_differences() {
     {
         for script in "$root"/{python,gateway}/bin/*; do
             echo "Files tar/bin/${script##*/} and debian/usr/bin/${script##*/} differ"
+            echo "Only in debian/usr/share/warcdx: ${script##*/}"
         done
         for page in "$root"/docs/*.1; do
             printf '%s\n' "Only in debian/usr/share/man/man1: ${page##*/}.gz" "Only in tar/share/man/man1: ${page##*/}"
@@ -173,18 +178,10 @@ wanted_package_differences() {
 Only in debian/usr/share/doc/warcdx: changelog.gz
 Only in debian/usr/share/doc/warcdx: copyright
 Only in debian/usr/share/zsh: vendor-completions
-Only in debian/usr/share: warcdx
 Only in debian/usr: lib
 Only in tar/share/doc/warcdx/gateway/service: warcdx-gateway.service
-Only in tar/share/doc/warcdx/gateway: bin
-Only in tar/share/doc/warcdx/gateway: warcdx_gateway
-Only in tar/share/doc/warcdx/python: LICENSE
-Only in tar/share/doc/warcdx/python: VERSION
-Only in tar/share/doc/warcdx/python: bin
-Only in tar/share/doc/warcdx/python: build_backend.py
-Only in tar/share/doc/warcdx/python: pyproject.toml
-Only in tar/share/doc/warcdx/python: warcdx
-Only in tar/share/doc/warcdx/python: warcdx_start.py
+Only in tar/share/warcdx: gateway
+Only in tar/share/warcdx: python
 Only in tar/share/doc/warcdx: SHA256SUMS
 Only in tar/share/zsh: site-functions
 END
@@ -199,9 +196,9 @@ check_debian_package() {
     expect "package: modes" "" "$(other_modes "$debian")"
     expect "package: owners" "" "$(dpkg-deb --contents "$package" | other_owners)"
     expect "package: files" "$(wanted_package_differences)" "$(package_differences)"
-    expect "package: Python package" "" "$(diff --recursive "$doc/python/warcdx" "$debian/usr/lib/python3/dist-packages/warcdx" 2>&1)"
+    expect "package: Python package" "" "$(diff --recursive "$code/python/warcdx" "$debian/usr/lib/python3/dist-packages/warcdx" 2>&1)"
     expect "package: scripts" "" "$(for script in "$root"/{python,gateway}/bin/*; do diff "$script" "$debian/usr/share/warcdx/${script##*/}" 2>&1; done)"
-    expect "package: gateway" "" "$(diff --recursive "$doc/gateway/warcdx_gateway" "$debian/usr/lib/python3/dist-packages/warcdx_gateway" 2>&1)"
+    expect "package: gateway" "" "$(diff --recursive "$code/gateway/warcdx_gateway" "$debian/usr/lib/python3/dist-packages/warcdx_gateway" 2>&1)"
     expect "package: unit of systemd" "" "$(diff "$root/gateway/service/warcdx-gateway.service" "$debian/lib/systemd/system/warcdx-gateway.service" 2>&1)"
     expect "package: version of the Python package" "$version" "$(PYTHONPATH=$debian/usr/lib/python3/dist-packages PYTHONDONTWRITEBYTECODE=1 \
         /usr/bin/python3 -c 'import importlib.metadata; print(importlib.metadata.version("warcdx"))')"
@@ -215,14 +212,14 @@ check_debian_package() {
 
 # The wheel in a new virtual environment, without an index of packages, and by a Python that finds no `warcdx` on the PATH.
 check_wheel() {
-    local environment=$work/environment found=$work/wheel.cdxj
+    local environment=$work/environment found=$work/wheel.cdxj scripts=("$root"/{python,gateway}/bin/*)
     /usr/bin/python3 -m venv "$environment"
     check_command "wheel: installed by pip" "$environment/bin/pip" install --no-index --quiet --disable-pip-version-check "$wheel"
     expect "wheel: version" "$version" "$(in_environment python -c 'import warcdx; print(warcdx.__version__)')"
     expect "wheel: version for pip" "Version: $version" "$(in_environment pip show warcdx | grep '^Version')"
     expect "wheel: programs" "" "$(for name in warcdx warcdx-gz; do diff "$prefix/bin/$name" "$environment/bin/$name" 2>&1; done)"
     expect "wheel: modes" "" "$(find "$environment/bin" -name 'warcdx*' ! -perm 755)"
-    expect "wheel: commands" "$(cd "$root/python/bin" && in_order warcdx warcdx-gz warcdx-*)" "$(cd "$environment/bin" && in_order warcdx*)"
+    expect "wheel: commands" "$(in_order warcdx warcdx-gz "${scripts[@]##*/}")" "$(cd "$environment/bin" && in_order warcdx*)"
     expect "wheel: what the commands print" "" "$(silent_commands in_environment "$environment/bin")"
     "$environment/bin/warcdx" index "$doc/samples/wget.warc" > "$found"
     expect "wheel: the program is found without the PATH" 33 "$(env --ignore-environment PATH=/usr/bin:/bin "$environment/bin/python" -c \
@@ -230,6 +227,21 @@ check_wheel() {
     expect "wheel: links of its tag" "manylinux_2_34" "manylinux_$(library_versions | sed -n '$s/GLIBC_//p' | tr . _)"
     in_environment pip uninstall --quiet --yes warcdx
     expect "wheel: what is left of it" "" "$(find "$environment" -name '*warcdx*')"
+}
+
+# The gateway of the wheel, in an environment that has the packages of the extra from Debian.
+check_wheel_gateway() {
+    local environment=$work/served server
+    if ! /usr/bin/python3 -c 'import brotli, gunicorn, prometheus_client, regex, werkzeug' 2> "$work/output"; then return; fi
+    /usr/bin/python3 -m venv --system-site-packages "$environment"
+    check_command "wheel: the extra for the gateway" "$environment/bin/pip" install --no-index --quiet --disable-pip-version-check "${wheel}[gateway]"
+    env --ignore-environment HOME="$work" PATH=/usr/bin:/bin "$environment/bin/warcdx-gateway" --port 0 --workers 2 --indexes "$work/wheel.cdxj" > "$work/address" 2>&1 &
+    server=$!
+    for _ in {1..200}; do if [ -s "$work/address" ]; then break; else sleep 0.1; fi; done
+    expect "wheel: an answer of the gateway" 410 "$(/usr/bin/python3 -c 'import sys, urllib.request; print(urllib.request.urlopen(sys.argv[1]).read().decode())' \
+        "$(head --lines=1 "$work/address")cdx?url=127.0.0.1:8000/odd/gone&fl=statuscode" 2>&1)"
+    kill "$server"
+    wait "$server" || true
 }
 
 in_environment() { # COMMAND ARGUMENT..
@@ -301,6 +313,7 @@ check_tar_file
 check_programs
 check_debian_package
 check_wheel
+check_wheel_gateway
 check_planted_modules
 if [ -z "$draft" ]; then check_command "the libraries in NOTICE, and the address in CONTACT" "$root/tools/check_notice.py" --contact; fi
 if [ $# -ge 2 ]; then check_same_again "${@:2}"; fi

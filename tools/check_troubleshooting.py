@@ -23,8 +23,8 @@ from program import ROOT, Report, parser_of
 PACKAGE, GATEWAY = ROOT / "python/warcdx", ROOT / "gateway/warcdx_gateway"
 REPORTING = ("report", "CannotResume", "CannotUpdate", "CannotRead", "BadRow", "Unreadable", "ProgramMissing", "ProgramTooOld")
 LEAST_LETTERS = 10  # of the part of a message that is searched
-# Lines about progress, and what happens only if the program isn't the one that the package was made for.
-NOT_SEARCHED = re.compile(r"archives, | index stays as it was|the program has (?:written|given) no ")
+# Lines about progress, the end of a usage error, and what happens only if the program isn't the one that the package was made for.
+NOT_SEARCHED = re.compile(r"archives, | index stays as it was|--help' has the arguments|the program has (?:written|given) no ")
 
 
 def causes(module: str) -> Iterator[str]:

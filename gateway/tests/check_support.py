@@ -58,10 +58,10 @@ class Checked(Case):
                 wrong.append(f"{found.status} {found.text}")
         return wrong
 
-    def refused_start(self, *arguments: str) -> str:
+    def refused_start(self, *arguments: str, status: int = 1) -> str:
         """Returns what a gateway says that doesn't start."""
         server = self.run_command("--port", "0", "--workers", "2", *arguments)
-        self.assertEqual(1, server.process.wait(WAIT))
+        self.assertEqual(status, server.process.wait(WAIT))
         self.assertEqual("", server.url)
         said = server.said.read_text()
         self.assertEqual(1, said.count("\n"), said)

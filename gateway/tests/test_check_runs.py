@@ -100,7 +100,7 @@ class Runs(Checked):
             ('shift; echo "$1"; exit 0', "warcdx has ended with exit status 0"),
         ):
             program = self.program(f"[ $1 != check ] || {{ {rule}; }}")
-            said = self.refused_start("--program", str(program), "--indexes", str(index))
+            said = self.refused_start("--program", str(program), "--indexes", str(index), status=3)
             self.assertIn(f"the indexes couldn't be checked: {words}", said)
             program = self.program(f"[ $1 != check ] || [ ! -e {self.folder}/bad ] || {{ {rule}; }}")
             server = self.start(program=program)

@@ -224,13 +224,13 @@ class Defaults(unittest.TestCase):
 class Starts(Case):
     """A server that can't start says so on one line."""
 
-    def fails(self, *arguments: str) -> str:
+    def fails(self, *arguments: str, status: int = 3) -> str:
         command = ("/usr/bin/python3", ROOT / "gateway/bin/warcdx-gateway", *arguments)
         done = subprocess.run(
             command, stdout=subprocess.PIPE, stderr=subprocess.PIPE, text=True, timeout=WAIT
         )
         self.assertEqual(
-            (1, "", 1), (done.returncode, done.stdout, done.stderr.count("\n")), done.stderr
+            (status, "", 1), (done.returncode, done.stdout, done.stderr.count("\n")), done.stderr
         )
         return done.stderr
 
@@ -264,7 +264,7 @@ class Starts(Case):
     def test_what_is_no_index_is_named(self) -> None:
         for text in ("a text\n", SAMPLE[:-20], SAMPLE + "x", "\0"):
             index = str(self.put(text))
-            said = self.fails("--port", "0", "--program", PROGRAM, "--indexes", index)
+            said = self.fails("--port", "0", "--program", PROGRAM, "--indexes", index, status=1)
             self.assertIn("index", said)
             self.assertIn("BadLine", said)
 
@@ -302,7 +302,7 @@ class Starts(Case):
             ("sh", "-c", command, "sh", *arguments), capture_output=True, text=True, timeout=60
         )
         said = "a process may open 64 files, and 129 are needed: raise the limit, as by ulimit -n"
-        self.assertEqual((1, "", f"warcdx-gateway: {said}\n"), (run.returncode, run.stdout, run.stderr))
+        self.assertEqual((3, "", f"warcdx-gateway: {said}\n"), (run.returncode, run.stdout, run.stderr))
 
     def test_a_used_port_is_named(self) -> None:
         server = self.run_command(
@@ -357,7 +357,7 @@ class Starts(Case):
             ("[collections]\na = 1", "'collections.a' has to be a table"),
         ):
             with self.subTest(text):
-                self.assertIn(wanted, self.fails(self.settings(text)))
+                self.assertIn(wanted, self.fails(self.settings(text), status=1))
 
     def test_paths_are_relative_to_the_file(self) -> None:
         self.put(SAMPLE)

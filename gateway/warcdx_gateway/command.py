@@ -8,17 +8,20 @@ the collections. With --indexes there is one collection, named main.
 
 Prints the address when it answers. SIGTERM ends it after the answers that are being sent, and SIGHUP
 makes it read SETTINGS again.
-The exit status is 0; 1 if it can't start, with the reason on one line; 2 after a usage error; or 3 if
-standard output or memory failed.
+The exit status is 0 after a signal; 1 if the settings or an index are at fault; 2 after a usage error;
+or 3 if a file can't be opened, the address can't be used, a package is missing, or the program, memory
+or standard output failed. One line says why.
 """
 import dataclasses
 import pathlib
+import sys
 from collections.abc import Sequence
 from typing import Optional
 
-from warcdx import Error, __version__, command
+from warcdx import Error, Fault, command
 from warcdx.streams import OutputError
 
+from .checking import NotInOrder
 from .settings import BadSettings, CollectionSettings, Settings, checked, read_settings
 
 NAME = "warcdx-gateway"
@@ -27,7 +30,6 @@ NAME = "warcdx-gateway"
 def read_arguments(arguments: Optional[Sequence[str]]) -> Settings:
     """Returns the settings of the command line. Raises BadSettings."""
     parser = command.Parser(NAME, __doc__)
-    parser.add_argument("--version", action="version", version=f"{NAME} {__version__}")
     parser.add_argument("settings", metavar="SETTINGS", nargs="?", help="a file in TOML")
     parser.add_argument(
         "--indexes", metavar="INDEX", nargs="+", help="the indexes of one collection"
@@ -44,7 +46,7 @@ def read_arguments(arguments: Optional[Sequence[str]]) -> Settings:
     parser.add_argument("--program", help="the program warcdx")
     given = parser.parse(arguments)
     if (given.settings is None) == (given.indexes is None):
-        parser.error("either SETTINGS or --indexes has to be given")
+        parser.error("give either SETTINGS or --indexes INDEX..")
     if given.settings is not None:
         settings = read_settings(pathlib.Path(given.settings))
     else:
@@ -71,15 +73,25 @@ def work(arguments: Optional[Sequence[str]]) -> int:
 
         run(settings, lambda: read_arguments(arguments))
     except ModuleNotFoundError as error:
-        packages = "Debian's packages gunicorn, python3-werkzeug, python3-prometheus-client and python3-regex"
-        command.report(NAME, f"{error.name} is missing ({packages})")
-        return 1
+        packages = "gunicorn, python3-werkzeug, python3-prometheus-client and python3-regex"
+        how = f"install Debian's packages {packages}, or 'warcdx[gateway]' by pip"
+        command.report(NAME, f"{error.name} is missing in {sys.executable}: {how}")
+        return command.FAILED
     except OutputError:
         raise
     except (BadSettings, Error, OSError, OverflowError) as error:
         command.report(NAME, command.printable(command.reason_of(error)))
-        return 1
+        return status_of(error)
     return 0
+
+
+def status_of(error: Exception) -> int:
+    """Returns the exit status after an error: 1 if what was given is at fault."""
+    if isinstance(error, Fault):
+        return command.status_of(error)
+    is_unread = isinstance(error.__cause__, OSError)
+    is_given = isinstance(error, (BadSettings, NotInOrder, OverflowError))
+    return command.FAULTY if is_given and not is_unread else command.FAILED
 
 
 def main(arguments: Optional[Sequence[str]] = None) -> int:

@@ -133,7 +133,10 @@ def read_settings(path: pathlib.Path) -> Settings:
             return settings_of(tomllib.load(file), path.parent)
     except OSError as error:
         raise BadSettings(f"{path}: {error.strerror}") from error
-    except (tomllib.TOMLDecodeError, UnicodeDecodeError, BadSettings) as error:
+    except (tomllib.TOMLDecodeError, UnicodeDecodeError) as error:
+        way = "" if path.suffix == ".toml" else "; --indexes INDEX.. serves indexes without settings"
+        raise BadSettings(f"{path}: {error}{way}") from error
+    except BadSettings as error:
         raise BadSettings(f"{path}: {error}") from error
 
 
@@ -196,7 +199,7 @@ def values_of(kind: Any, table: object, where: str = "") -> dict[str, Any]:
     for name, value in table.items():
         full, wanted = f"{where}.{name}".lstrip("."), types.get(name)
         if wanted is None:
-            raise BadSettings(f"unknown setting '{full}'")
+            raise BadSettings(f"unknown setting '{full}': there are {', '.join(types)}")
         if wanted in WORDS:
             require(type(value) is wanted, full, f"has to be {WORDS[wanted]}")
             found[name] = value

@@ -75,7 +75,7 @@ class Case(unittest.TestCase):
             for environment in ({}, {"PYTHONUNBUFFERED": "1"}):
                 with open(self.folder / "output", "wb") as output:
                     done = subprocess.run(
-                        (sys.executable, command, "--warcdx", os.path.abspath(PROGRAM), *arguments), cwd=self.folder,
+                        (sys.executable, command, "--program", os.path.abspath(PROGRAM), *arguments), cwd=self.folder,
                         stdout=output, stderr=subprocess.PIPE, text=True, env={**os.environ, **environment},
                         preexec_fn=lambda: setrlimit(RLIMIT_FSIZE, (1000, 1000)),
                     )  # fmt: skip

@@ -3,6 +3,7 @@ import gzip
 import hashlib
 import io
 import os
+import pickle
 import subprocess
 import unittest
 import zlib
@@ -59,6 +60,14 @@ class Archives(Case):
         self.raises(faults.Version, list, Archive(self.put("x" * 20), program=PROGRAM).verify())
         self.assertEqual([], list(Archive(self.put("", "empty"), program=PROGRAM).list()))
         self.assertEqual(2, self.raises(ProgramEnded, list, Archive(os.fsdecode(b"\xff"), program=PROGRAM).list()).status)
+
+    def test_a_fault_has_the_advice_of_the_program(self) -> None:
+        for text, advice in (("<p>", "It seems to be an HTML or XML file, and not a WARC file."), ("x", "No record begins there: ")):
+            found = self.raises(faults.Version, Archive(self.put(text), program=PROGRAM).get, 0)
+            self.assertTrue(found.advice.startswith(advice), found.advice)
+            self.assertEqual(found.advice, pickle.loads(pickle.dumps(found)).advice)
+        found = self.raises(faults.CannotOpen, Archive(self.folder / "nosuch", program=PROGRAM).get, 0)
+        self.assertEqual("", found.advice)
 
     def test_a_program_that_is_killed_has_ended(self) -> None:
         text = f'[ "$1" = list ] || exec "{PROGRAM}" "$@"\nprintf "0 264 response\\n264 18"; kill -9 $$'

@@ -18,7 +18,8 @@ from .support import Case
 
 PYTHON = pathlib.Path(__file__).resolve().parents[1]
 VERSION = (PYTHON / "VERSION").read_text().strip()
-COMMANDS = sorted(path.name for path in (PYTHON / "bin").iterdir())
+GATEWAY = PYTHON.parent / "gateway"
+COMMANDS = sorted([*(path.name for path in (PYTHON / "bin").iterdir()), "warcdx-gateway"])
 MODULES = sorted(path.name for path in (PYTHON / "warcdx").glob("*.py"))
 HAS_VENV = importlib.util.find_spec("ensurepip") is not None
 
@@ -42,11 +43,19 @@ class Build(Case):
         wheel = self.wheel()
         modules = sorted(name for name in wheel.namelist() if name.startswith("warcdx/") or name == "warcdx_start.py")
         self.assertEqual(sorted([*(f"warcdx/{name}" for name in MODULES), "warcdx/py.typed", "warcdx_start.py"]), modules)
+        wanted = {path.relative_to(GATEWAY).as_posix() for path in (GATEWAY / "warcdx_gateway").rglob("*.*") if path.suffix != ".pyc"}
+        self.assertEqual(wanted, {name for name in wheel.namelist() if name.startswith("warcdx_gateway/")})
         for name in COMMANDS:
             script = f"warcdx-{VERSION}.data/scripts/{name}"
             self.assertTrue(wheel.read(script).startswith(b"#!python\n"), name)
             self.assertEqual(0o755, wheel.getinfo(script).external_attr >> 16 & 0o777)
         self.assertEqual(0o644, wheel.getinfo("warcdx/index.py").external_attr >> 16 & 0o777)
+
+    def test_the_packages_of_the_gateway_are_those_of_an_extra(self) -> None:
+        lines = build_backend.metadata().decode().splitlines()
+        needed = [line.split(": ", 1)[1] for line in lines if line.startswith("Requires-Dist: ")]
+        self.assertEqual({'extra == "gateway" and python_version >= "3.11"'}, {line.split("; ", 1)[1] for line in needed})
+        self.assertIn("Provides-Extra: gateway", lines)
 
     def test_a_wheel_with_the_programs_names_the_c_library(self) -> None:
         programs = ("warcdx", "warcdx-gz")

@@ -23,6 +23,7 @@ MEMBERS = {
 }  # fmt: skip
 LINE = f"{KEY} 20160919172024 {json.dumps(MEMBERS)}\n".encode()
 MOST = 1 << 24  # bytes of a line
+NO_LINE = "The line that begins there isn't one of a CDXJ index."
 
 
 def row(**columns: str) -> bytes:
@@ -40,7 +41,7 @@ def line(key: str = KEY, **members: object) -> bytes:
 class Cdx(Case):
     def run_command(self, *arguments: str, text: bytes = b"", **more: Any) -> tuple[bytes, str, int]:
         done = subprocess.run(
-            (sys.executable, COMMAND, "--warcdx", os.path.abspath(PROGRAM), *arguments), cwd=self.folder, input=text,
+            (sys.executable, COMMAND, "--program", os.path.abspath(PROGRAM), *arguments), cwd=self.folder, input=text,
             stdout=subprocess.PIPE, stderr=subprocess.PIPE, timeout=WAIT, **more,
         )  # fmt: skip
         return done.stdout, done.stderr.decode(errors="surrogateescape"), done.returncode
@@ -92,13 +93,13 @@ class To(Cdx):
             ("pipe index pipe", (HEADER + ROW, "", 0)),
             ("pipe nosuch", (b"", "warcdx-cdx: nosuch: cannot open: No such file or directory\n", 3)),
         ):
-            shell = f'cat index > pipe & exec "$0" "$1" --warcdx "$2" to {words}'
+            shell = f'cat index > pipe & exec "$0" "$1" --program "$2" to {words}'
             command = ("sh", "-c", shell, sys.executable, str(COMMAND), os.path.abspath(PROGRAM))
             done = subprocess.run(command, cwd=self.folder, capture_output=True, timeout=WAIT)
             self.assertEqual(wanted, (done.stdout, done.stderr.decode(), done.returncode), words)
         self.put_bytes(b"x\n", "index")
         done = subprocess.run(("sh", "-c", shell.replace(words, "pipe"), *command[3:]), cwd=self.folder, capture_output=True, timeout=WAIT)
-        self.assertEqual((b"", b"warcdx-cdx: pipe: BadLine 0\n", 1), (done.stdout, done.stderr, done.returncode))
+        self.assertEqual((b"", f"warcdx-cdx: pipe: BadLine 0: {NO_LINE}\n", 1), (done.stdout, done.stderr.decode(), done.returncode))
 
     def test_a_pipe_that_the_shell_has_opened(self) -> None:
         reading_end, writing_end = os.pipe()
@@ -110,7 +111,8 @@ class To(Cdx):
 
     def test_what_is_no_index_is_said(self) -> None:
         for text, wanted in (
-            (b"x\n", "BadLine 0"), (LINE + b"\xff\n", f"BadLine {len(LINE)}"), (LINE + line("a"), f"OutOfOrder {len(LINE)}")
+            (b"x\n", f"BadLine 0: {NO_LINE}"), (LINE + b"\xff\n", f"BadLine {len(LINE)}: {NO_LINE}"),
+            (LINE + line("a"), f"OutOfOrder {len(LINE)}: The index isn't in order: LC_ALL=C sort puts its lines in order."),
         ):  # fmt: skip
             for arguments, name in ((("index",), "index"), ((), "-")):
                 self.put_bytes(text, "index")
@@ -119,6 +121,30 @@ class To(Cdx):
                 self.assertTrue((HEADER + ROW).startswith(found))
         wanted = b"", "warcdx-cdx: nosuch: cannot open: No such file or directory\n", 3
         self.assertEqual(wanted, self.run_command("to", "nosuch"))
+
+
+class Output(Cdx):
+    def test_a_new_file(self) -> None:
+        self.put_bytes(LINE, "index")
+        for words in (("to", "-o", "new", "index"), ("-o", "new", "to", "index"), ("to", "index", "--output=new")):
+            self.assertEqual((b"", "", 0), self.run_command(*words))
+            self.assertEqual(HEADER + ROW, (self.folder / "new").read_bytes())
+            said = "warcdx-cdx: new: it is there, and isn't replaced\n"
+            self.assertEqual((b"", said, 3), self.run_command(*words))
+            (self.folder / "new").unlink()
+        self.assertEqual((HEADER + ROW, "", 0), self.run_command("to", "-o", "-", "index"))
+
+    def test_what_can_be_read_is_kept(self) -> None:
+        self.put_bytes(LINE + b"x\n", "index")
+        self.assertEqual((b"", f"warcdx-cdx: index: BadLine {len(LINE)}: {NO_LINE}\n", 1), self.run_command("to", "-o", "new", "index"))
+        self.assertTrue((HEADER + ROW).startswith((self.folder / "new").read_bytes()))
+
+    def test_a_file_that_cannot_be_opened_leaves_no_new_one(self) -> None:
+        self.put_bytes(ROW, "cdx")
+        for words in (("to", "nosuch"), ("from", "cdx", "nosuch"), ("from", "nosuch", "cdx")):
+            found, said, status = self.run_command(*words, "-o", "new")
+            self.assertEqual((b"", 1, 3), (found, said.count("nosuch: cannot open"), status))
+            self.assertEqual(["cdx"], os.listdir(self.folder))
 
 
 class From(Cdx):
@@ -213,7 +239,7 @@ class Both(Cdx):
         for number in ENDING:
             for word in ("to", "from"):
                 with subprocess.Popen(
-                    (sys.executable, COMMAND, "--warcdx", os.path.abspath(PROGRAM), word), cwd=self.folder,
+                    (sys.executable, COMMAND, "--program", os.path.abspath(PROGRAM), word), cwd=self.folder,
                     stdin=subprocess.PIPE, stdout=subprocess.PIPE, stderr=subprocess.STDOUT, env={**os.environ, "TMPDIR": str(temporary)},
                 ) as process:  # fmt: skip
                     wait_until_caught(process, signal.SIGTERM)
@@ -228,7 +254,7 @@ class Both(Cdx):
                 "import resource, subprocess, sys; subprocess.run(sys.argv[1:], stdout=subprocess.DEVNULL, check=True); "
                 "print(resource.getrusage(resource.RUSAGE_CHILDREN).ru_maxrss)"
             )
-            command = (sys.executable, "-c", script, sys.executable, COMMAND, "--warcdx", os.path.abspath(PROGRAM), word)
+            command = (sys.executable, "-c", script, sys.executable, COMMAND, "--program", os.path.abspath(PROGRAM), word)
             return int(subprocess.run(command, input=text, stdout=subprocess.PIPE, check=True).stdout)
 
         for word, text_of in (("to", lambda count: lines(count).encode()), ("from", lambda count: ROW * count)):

@@ -356,13 +356,13 @@ class Programs(Case):
 
     def test_the_tasks_of_warcdx_update_run_it(self) -> None:
         plain, beside = self.program("one/warcdx", "warcdx 0.1.0: x"), self.program("one/warcdx-gz", "warcdx-gz 0.1.0: x")
-        named = ("--warcdx", str(plain))
+        named = ("--program", str(plain))
         for words, wanted in (
             (named, str(beside)),
             ((*named, "--scheduler", "x"), str(beside)),
             (("--scheduler", "x"), "warcdx-gz"),
             (("--jobs", "1"), str(beside)),
-            (("--warcdx", "warcdx-gz"), str(beside)),
+            (("--program", "warcdx-gz"), str(beside)),
         ):
             with unittest.mock.patch.dict(os.environ, PATH=str(plain.parent)):
                 found = update_command.program_of(update_command.read_arguments([*words, "folder", "index"]))

@@ -2,6 +2,7 @@
 import datetime
 import errno
 import gzip
+import json
 import os
 import pathlib
 import resource
@@ -93,7 +94,7 @@ class Fetching(Case):
     ) -> tuple[int, bytes, str]:
         options = ["--index", index] if index else []
         done = subprocess.run(
-            (sys.executable, FOLDER / "bin/warcdx-fetch", "--warcdx", PROGRAM, *options, *words),
+            (sys.executable, FOLDER / "bin/warcdx-fetch", "--program", PROGRAM, *options, *words),
             cwd=self.folder,
             env={**os.environ, **(environment or {})},
             stdout=subprocess.PIPE,
@@ -118,12 +119,12 @@ class Fetching(Case):
 
     def test_no_page(self) -> None:
         for words, wanted in (
-            (("http://example.com/none",), "http://example.com/none: no index has a capture of it"),
+            (("http://example.com/none",), "http://example.com/none: no index has a capture of it; docs/FAQ.md has the usual causes"),
             (("http://example.com/lost",), "http://example.com/lost: it is a revisit, and no index has its original"),
         ):
             self.assertEqual((1, b"", f"warcdx-fetch: {wanted}\n"), self.fetch(*words), words)
         os.remove(self.archive)
-        why = "cannot open (No such file or directory)"
+        why = "cannot open (No such file or directory); --archives FOLDER names the folder of the archives"
         self.assertEqual((3, b"", f"warcdx-fetch: {self.folder}/a.warc: {why}\n"), self.fetch(URL))
 
     def test_variables_of_the_environment(self) -> None:
@@ -187,8 +188,11 @@ class Fetching(Case):
 
     def test_nothing_is_made_for_a_query_without_captures(self) -> None:
         for query, wanted in (
-            ("example.com/x*", "no index has a capture of it"),
-            ("url=example.com&from=June", "the query is refused: BadStamp in from (see docs/QUERY.md)"),
+            ("example.com/x*", "no index has a capture of it; docs/FAQ.md has the usual causes"),
+            (
+                "url=example.com&from=June",
+                "the query is refused: BadStamp in from: from and to are 1 to 14 digits, such as 2016 or 20160919172024.",
+            ),
         ):
             for output in ("all", "all.warc.gz"):
                 self.assertEqual((1, b"", f"warcdx-fetch: {query}: {wanted}\n"), self.fetch("--all", "-o", output, query))
@@ -226,6 +230,14 @@ class Fetching(Case):
         wanted = b'20160919172024-a_b_c 20160919172024 "http://a/\\nb\\u202ec"\n'
         self.assertEqual((0, wanted, ""), self.fetch("--all", "-o", "all", URL))
 
+    def test_lines_of_all_files(self) -> None:
+        name = "20180102030405-example.com.html"
+        line = {"file": name, "timestamp": "20180102030405", "url": URL}
+        query = "url=example.com&from=2018&to=2018"
+        self.assertEqual((0, json.dumps(line).encode() + b"\n", ""), self.fetch("--json", "--all", "-o", "all", query))
+        self.assertEqual((0, b"", ""), self.fetch("--quiet", "--all", "-o", "again", query))
+        self.assertEqual([[name]] * 2, [os.listdir(self.folder / folder) for folder in ("all", "again")])
+
     def test_all_as_an_archive(self) -> None:
         for index in ("a.cdxj", "b.cdxj"):
             name = f"{index}.warc.gz"
@@ -247,8 +259,11 @@ class Fetching(Case):
             (("--all", "-o", "x", "--at", "2016", URL), "--at"),
             (("--all", "-o", "-", URL), "--all needs -o OUTPUT"),
             (("--all", "-o", "x.warc", URL), "the name of a new archive ends with .warc.gz"),
-            (("-o", "", URL), "-o FILE is empty"),
+            (("-o", "", URL), "-o/--output: the name is empty"),
             (("--at", "never", URL), "TIME is a date"),
+            (("--json", URL), "--json is about the files of --all -o FOLDER"),
+            (("--all", "--json", "-o", "x.warc.gz", URL), "--json is about the files of --all -o FOLDER"),
+            (("--all", "--json", "--quiet", "-o", "x", URL), "not allowed with argument"),
             ((), "URL"),
         ):
             status, output, error = self.fetch(*words)

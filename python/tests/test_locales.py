@@ -58,7 +58,7 @@ class Locales(Case):
             ("warcdx-verify", "nosuch-\u00e9\n"),
             ("warcdx-verify", "--nosuch-\u00e9"),
         ):
-            command = (FOLDER / "bin" / name, "--warcdx", PROGRAM, *words)
+            command = (FOLDER / "bin" / name, "--program", PROGRAM, *words)
             usual = self.ended("C.UTF-8", *command)
             for locale in LOCALES:
                 self.assertEqual(usual, self.ended(locale, *command), (locale, command))
@@ -70,7 +70,9 @@ class Locales(Case):
     def test_an_argument_that_is_not_utf_8_is_a_usage_error(self) -> None:
         for locale in ("C.UTF-8", *LOCALES):
             found = self.ended(locale, FOLDER / "bin/warcdx-verify", "--jobs=1", b"\xe9.warc")
-            self.assertEqual((2, b"", b"warcdx-verify: error: argument 2 isn't UTF-8\n"), found, locale)
+            self.assertEqual(
+                (2, b"", b"warcdx-verify: error: argument 2 isn't UTF-8; 'warcdx-verify --help' has the arguments\n"), found, locale
+            )
 
     def test_the_package_in_a_process_of_such_a_locale(self) -> None:
         text = (

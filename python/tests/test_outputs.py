@@ -28,7 +28,7 @@ class Pipes(Case):
         os.mkfifo(self.folder / "pipe")
         ends = list(itertools.accumulate(map(len, members)))
         for size in (64, ends[0] - 1, *ends[:-1], ends[2] + 100):
-            command = f"prlimit --fsize={size} {sys.executable} {FOLDER}/bin/warcdx-verify --warcdx {PROGRAM}"
+            command = f"prlimit --fsize={size} {sys.executable} {FOLDER}/bin/warcdx-verify --program {PROGRAM}"
             for shell in (f"cat a.warc.gz > pipe & {command} pipe", f"cat a.warc.gz | {command} /dev/stdin"):
                 done = subprocess.run(("sh", "-c", shell), cwd=self.folder, capture_output=True, timeout=WAIT)
                 self.assertEqual((3, b""), (done.returncode, done.stdout), (size, shell))
@@ -40,7 +40,7 @@ class Pipes(Case):
         texts = [resource(0), resource(1)]
         for text, second in ((b"".join(texts), len(texts[0])), (b"".join(packed(*texts)), len(packed(texts[0])[0]))):
             (self.folder / "text").write_bytes(text)
-            command = f"{sys.executable} {FOLDER}/bin/warcdx-verify --warcdx {PROGRAM}"
+            command = f"{sys.executable} {FOLDER}/bin/warcdx-verify --program {PROGRAM}"
             for shell in (f"cat text > pipe & {command} pipe", f"cat text | {command} /dev/stdin", f"{command} /dev/stdin < text"):
                 done = subprocess.run(("sh", "-c", shell), cwd=self.folder, capture_output=True, timeout=WAIT)
                 self.assertEqual(f"0 absent absent\n{second} absent absent\n".encode(), done.stdout, shell)
@@ -55,7 +55,7 @@ class Limits(Case):
         """Returns the status, what was said, and what is left in the folder for temporary files."""
         temporary = self.folder / "temporary"
         temporary.mkdir(exist_ok=True)
-        command = ("prlimit", limit, str(FOLDER / "bin" / words[0]), "--warcdx", PROGRAM, *words[1:])
+        command = ("prlimit", limit, str(FOLDER / "bin" / words[0]), "--program", PROGRAM, *words[1:])
         environment = {**os.environ, "TMPDIR": str(temporary)}
         done = subprocess.run(command, cwd=self.folder, input=given, capture_output=True, timeout=WAIT, env=environment)
         return done.returncode, done.stderr, os.listdir(temporary)
@@ -132,8 +132,8 @@ class Waiting(Case):
 
     def test_an_input_that_pauses_is_read_to_its_end(self) -> None:
         for words, pieces, wanted in (
-            ((FOLDER / "bin/warcdx-cdx", "--warcdx", PROGRAM, "from"), [f"{CDX}\n".encode()] * 3, 3),
-            ((FOLDER / "bin/warcdx-cdx", "--warcdx", PROGRAM, "to"), [line.encode() for line in lines(3).splitlines(True)], 4),
+            ((FOLDER / "bin/warcdx-cdx", "--program", PROGRAM, "from"), [f"{CDX}\n".encode()] * 3, 3),
+            ((FOLDER / "bin/warcdx-cdx", "--program", PROGRAM, "to"), [line.encode() for line in lines(3).splitlines(True)], 4),
         ):
             reading_end, writing_end = os.pipe()
             os.set_blocking(reading_end, False)
@@ -151,7 +151,7 @@ class Waiting(Case):
         (self.folder / "a.warc.gz").write_bytes(b"".join(packed(*map(resource, range(8000)))))
         reading_end, writing_end = os.pipe()
         os.set_blocking(writing_end, False)
-        words = (FOLDER / "bin/warcdx-verify", "--warcdx", PROGRAM, "a.warc.gz")
+        words = (FOLDER / "bin/warcdx-verify", "--program", PROGRAM, "a.warc.gz")
         process = self.ended(words, stdout=writing_end, stderr=subprocess.PIPE)
         os.close(writing_end)
         with open(reading_end, "rb") as pipe:

@@ -51,14 +51,14 @@ class Commands(Case):
                 self.assertEqual(getattr(usual, each), getattr(ignored, each), words)
 
     def ended(self, words: "tuple[str, ...]", before: "Callable[[], None] | None") -> "subprocess.CompletedProcess[bytes]":
-        command = (FOLDER / "bin" / words[0], "--warcdx", PROGRAM, *words[1:])
+        command = (FOLDER / "bin" / words[0], "--program", PROGRAM, *words[1:])
         return subprocess.run(command, cwd=self.folder, preexec_fn=before, capture_output=True, timeout=WAIT)
 
     def test_processes_that_the_command_has_not_started_do_not_concern_it(self) -> None:
         """A shell that becomes the command leaves it what it has started."""
         for name in ("a.warc.gz", "b.warc.gz"):
             (self.folder / name).write_bytes(b"".join(packed(resource(0))))
-        shell = f'sleep 0.2 & sleep 0 & exec {FOLDER}/bin/warcdx-verify --warcdx "$0" --jobs 2 a.warc.gz b.warc.gz'
+        shell = f'sleep 0.2 & sleep 0 & exec {FOLDER}/bin/warcdx-verify --program "$0" --jobs 2 a.warc.gz b.warc.gz'
         done = subprocess.run(("sh", "-c", shell, PROGRAM), cwd=self.folder, capture_output=True, timeout=WAIT)
         self.assertEqual(b"a.warc.gz:\n0 absent absent\nb.warc.gz:\n0 absent absent\n", done.stdout)
         self.assertEqual((1, 2), (done.returncode, done.stderr.count(b"\n")), done.stderr)

@@ -4,12 +4,14 @@ The digests of `abc` are those of FIPS 180-4 and RFC 1321, and their base 32 is 
 """
 import gzip
 import hashlib
+import json
 import os
 import pathlib
 import resource
 import signal
 import subprocess
 import sys
+import time
 import unittest
 from typing import Any, Optional
 
@@ -177,7 +179,7 @@ class Command(Case):
 
     def run_command(self, *arguments: str, **more: Any) -> tuple[str, str, int]:
         done = subprocess.run(
-            (sys.executable, COMMAND, "--warcdx", os.path.abspath(PROGRAM), *arguments),
+            (sys.executable, COMMAND, "--program", os.path.abspath(PROGRAM), *arguments),
             cwd=self.folder, capture_output=True, text=True, errors="surrogateescape", **more,
         )  # fmt: skip
         return done.stdout, done.stderr, done.returncode
@@ -226,7 +228,7 @@ class Command(Case):
             self.assertEqual((wanted, "", 1), self.run_command("--jobs", jobs, *names))
         found, said, status = self.run_command("--jobs", "3", names[1], "nosuch", names[2])
         self.assertEqual(("0.warc:\n0 same absent\n1.warc:\n0 same absent\n", 3), (found, status))
-        self.assertEqual("warcdx-verify: nosuch: cannot open\n", said)
+        self.assertEqual("warcdx-verify: nosuch: cannot open (No such file or directory)\n", said)
 
     def test_an_archive_that_takes_long_holds_no_files(self) -> None:
         slow, name = "slow", "nosuch"
@@ -241,7 +243,7 @@ class Command(Case):
             "--jobs", "2", slow, *names, preexec_fn=lambda: resource.setrlimit(resource.RLIMIT_NOFILE, limit)
         )
         self.assertEqual(("slow:\n0 absent absent\n", 3), (found, status))
-        wanted = "".join(f"warcdx-verify: {each}: cannot open\n" for each in names)
+        wanted = "".join(f"warcdx-verify: {each}: cannot open (No such file or directory)\n" for each in names)
         self.assertEqual("warcdx-verify: slow: no digest was compared\n" + wanted, said)
 
     def test_a_program_that_is_killed_is_said_once(self) -> None:
@@ -250,7 +252,7 @@ class Command(Case):
         folded = record(b"abc", OF_ABC[0]).replace(b"WARC-Type: ", b"WARC-Type:\r\n ")  # which only the program reads
         names = [self.put_bytes(folded, f"{number}.warc") for number in range(5)]
         for jobs in ("1", "3"):
-            found, said, status = self.run_command("--warcdx", killed, "--jobs", jobs, *names)
+            found, said, status = self.run_command("--program", killed, "--jobs", jobs, *names)
             self.assertEqual(("0.warc:\n", "warcdx-verify: warcdx has ended with signal 9\n", 3), (found, said, status))
 
     def test_names_of_all_kinds(self) -> None:
@@ -260,10 +262,12 @@ class Command(Case):
         self.put_bytes(record(b"abc", OF_ABC[0]), "-x")
         for arguments in (("./-x",), ("--", "-x")):
             self.assertEqual(("0 same absent\n", "", 0), self.run_command(*arguments))
-        self.assertEqual(("", 'warcdx-verify: "x\\n": cannot open\n', 3), self.run_command("x\n"))
+        self.assertEqual(("", 'warcdx-verify: "x\\n": cannot open (No such file or directory)\n', 3), self.run_command("x\n"))
         name = os.fsdecode(b"\xff.warc")
         self.put_bytes(record(b"abc", OF_ABC[0]), name)
-        self.assertEqual(("", "warcdx-verify: error: argument 3 isn't UTF-8\n", 2), self.run_command(name))
+        self.assertEqual(
+            ("", "warcdx-verify: error: argument 3 isn't UTF-8; 'warcdx-verify --help' has the arguments\n", 2), self.run_command(name)
+        )
 
     def test_small_records_of_a_member_each_need_no_turns(self) -> None:
         # The program lists more of them than a pipe holds, before the second reader has them.
@@ -286,7 +290,7 @@ class Command(Case):
             name = self.put_bytes(record(b"abc", OF_ABC[0]))
             for arguments in (("pipe",), ("--jobs", "3", name, "pipe", "pipe", name)):
                 process = subprocess.Popen(
-                    (sys.executable, COMMAND, "--warcdx", os.path.abspath(PROGRAM), *arguments), cwd=self.folder,
+                    (sys.executable, COMMAND, "--program", os.path.abspath(PROGRAM), *arguments), cwd=self.folder,
                     stdout=subprocess.PIPE, stderr=subprocess.STDOUT, env={**os.environ, "TMPDIR": str(temporary)},
                 )  # fmt: skip
                 wait_until_caught(process, signal.SIGTERM)  # until then Python itself handles SIGINT
@@ -309,6 +313,58 @@ class Command(Case):
         verdicts_of = [[line.split()[1:] for line in text.splitlines()] for text in (plain, found)]
         self.assertEqual(verdicts_of[0], verdicts_of[1])
         self.assertEqual(("", 0), (said, status))
+
+    def test_standard_input(self) -> None:
+        text = record(b"abc", OF_ABC[5])
+        for given in (text, gzip.compress(text)):
+            for redirected in (False, True):
+                with open(self.folder / self.put_bytes(given), "rb") as file:
+                    done = subprocess.run(
+                        (sys.executable, COMMAND, "--program", os.path.abspath(PROGRAM), "-"), cwd=self.folder,
+                        capture_output=True, **({"stdin": file} if redirected else {"input": given}),
+                    )  # fmt: skip
+                self.assertEqual((b"0 same absent\n", b"", 0), (done.stdout, done.stderr, done.returncode))
+        self.put_bytes(record(b"abd", OF_ABC[5]), "-")
+        self.assertEqual(("0 differs absent\n", "", 1), self.run_command("./-"))
+        found, said, status = self.run_command("-", "-", input="")
+        self.assertEqual(("", 2), (found, status))
+        self.assertIn("standard input (-) can be read once", said)
+
+    def test_lines_of_json(self) -> None:
+        good, bad = record(b"abc", OF_ABC[5]), record(b"abd", OF_ABC[5])
+        names = [self.put_bytes(good + bad + good[:-6], "a\nb"), self.put_bytes(good, "c")]
+        wanted = [
+            {"archive": "a\nb", "offset": 0, "block": "same", "payload": "absent"},
+            {"archive": "a\nb", "offset": len(good), "block": "differs", "payload": "absent"},
+            {"archive": "a\nb", "offset": 2 * len(good), "fault": "ShortBlock"},
+            {"archive": "c", "offset": 0, "block": "same", "payload": "absent"},
+        ]
+        for words, lines in (((), wanted), (("--jobs", "2"), wanted), (("--quiet",), wanted[1:3])):
+            found, _, status = self.run_command("--json", *words, *names)
+            self.assertEqual((lines, 1), ([json.loads(line) for line in found.splitlines()], status))
+
+    def test_a_new_file_has_the_lines(self) -> None:
+        names = [self.put_bytes(record(b"abd", OF_ABC[5]), name) for name in ("a", "b")]
+        wanted = self.run_command(*names)[0]
+        for words in ((), ("--jobs", "2"), ("--jobs=2", "--resume=notes")):
+            self.assertEqual(("", "", 1), self.run_command("-o", "report", *words, *names))
+            self.assertEqual(wanted, (self.folder / "report").read_text())
+            said = "warcdx-verify: report: it is there, and isn't replaced\n"
+            self.assertEqual(("", said, 3), self.run_command("-o", "report", "--resume", "others", *names))
+            (self.folder / "report").unlink()
+        self.assertEqual({"a", "b", "notes"}, {path.name for path in self.folder.iterdir()})
+        self.assertEqual((wanted, "", 1), self.run_command("-o", "-", *names))
+        found, said, status = self.run_command("--output=nosuch/report", *names)
+        self.assertEqual(("", "warcdx-verify: nosuch/report: No such file or directory\n", 3), (found, said, status))
+
+    def test_a_signal_leaves_no_new_file(self) -> None:
+        os.mkfifo(self.folder / "pipe")
+        command = (sys.executable, COMMAND, "--program", os.path.abspath(PROGRAM), "-o", "report", "pipe")
+        with subprocess.Popen(command, cwd=self.folder) as process:
+            wait_until_caught(process, signal.SIGTERM)
+            time.sleep(0.2)
+            process.send_signal(signal.SIGTERM)
+        self.assertEqual((-signal.SIGTERM, ["pipe"]), (process.returncode, os.listdir(self.folder)))
 
     def test_help_version_and_usage_errors(self) -> None:
         version = (COMMAND.parents[1] / "VERSION").read_text().strip()

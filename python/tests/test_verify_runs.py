@@ -29,7 +29,7 @@ class Runs(Case):
         return name
 
     def command(self, *arguments: str) -> tuple[str, ...]:
-        return (sys.executable, str(COMMAND), "--warcdx", WARCDX, *arguments)
+        return (sys.executable, str(COMMAND), "--program", WARCDX, *arguments)
 
     def run_command(self, *arguments: str, **more: Any) -> tuple[list[str], list[str], int]:
         """Returns the lines of the output, those of standard error, and the exit status."""
@@ -65,7 +65,7 @@ class Quiet(Runs):
             f"cut.warc.gz: fault {len(member)} CutMember", '"a\\nb.warc": 0 differs absent',
         ]  # fmt: skip
         said = [
-            "warcdx-verify: none.warc: no digest was compared", 'warcdx-verify: "nosuch\\n": cannot open',
+            "warcdx-verify: none.warc: no digest was compared", 'warcdx-verify: "nosuch\\n": cannot open (No such file or directory)',
             "warcdx-verify: 6 archives: 4 at fault, 1 not read",
         ]  # fmt: skip
         self.assertEqual((found, said, 3), self.run_command("--quiet", *names))
@@ -93,7 +93,7 @@ class Quiet(Runs):
         folded = GOOD.replace(b"WARC-Type:", b"WARC-Type:\r\n")  # which only the program reads
         names = [self.put_bytes(f"{number}.warc", folded) for number in range(4)]
         for jobs in ("1", "2"):
-            found = self.run_command("--warcdx", killed, "--quiet", "--resume", "notes", "--jobs", jobs, *names)
+            found = self.run_command("--program", killed, "--quiet", "--resume", "notes", "--jobs", jobs, *names)
             said = ["warcdx-verify: warcdx has ended with signal 9", "warcdx-verify: 4 archives: 4 not read"]
             self.assertEqual(([], said, 3), found)
             self.assertEqual([], self.noted())
@@ -219,7 +219,7 @@ class Resume(Runs):
                 Notes(str(self.folder / "notes"))
             self.assertEqual(text, (self.folder / "notes").read_bytes())
         found = self.run_command("--resume", "b.warc", "a.warc")
-        self.assertEqual(([], ["warcdx-verify: b.warc isn't a file of --resume, and stays as it is"], 3), found)
+        self.assertEqual(([], ["warcdx-verify: b.warc isn't a file of --resume, and stays as it is: give another name"], 3), found)
         self.assertEqual({"a.warc", "b.warc", "notes"}, set(os.listdir(self.folder)))
         self.assertEqual(GOOD, (self.folder / "b.warc").read_bytes())
 

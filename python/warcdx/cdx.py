@@ -37,6 +37,10 @@ class BadRow(Exception):
         return f"line {self.number}: {self.cause}"
 
 
+class NoColumns(BadRow):
+    """A line has neither the columns of a file without a header, nor a header before it. The file may be of another kind."""
+
+
 class CannotRead(Exception):
     """A CDX file can't be opened or read. The text says which, and the system's reason."""
 
@@ -160,7 +164,7 @@ def _rows(file: IO[bytes]) -> Iterator[_Row]:
         count = line.count(b" ") + 1
         if not places:
             if count not in _USUAL_LETTERS:
-                raise BadRow(number, f"it has {_columns(count)}, and not 11 or 9; a header names other columns")
+                raise NoColumns(number, f"it has {_columns(count)}, and not 11 or 9; a header names other columns")
             letters = [bytes([letter]) for letter in _USUAL_LETTERS[count]]
             places = _places_of(letters, number)
         if count != len(letters):

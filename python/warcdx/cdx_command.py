@@ -1,7 +1,7 @@
 """Converts indexes to CDX files of eleven columns, and CDX files to indexes.
 
-usage: warcdx-cdx [--warcdx PROGRAM] to [INDEX..]
-       warcdx-cdx [--warcdx PROGRAM] from [CDX..]
+usage: warcdx-cdx to [-o FILE] [--program PROGRAM] [INDEX..]
+       warcdx-cdx from [-o FILE] [--program PROGRAM] [CDX..]
 
 `to` merges indexes, and writes their captures in eleven columns after the header ` CDX N b a m s k r M S V g`.
 `from` reads CDX files, and writes the captures as lines of an index, in the order of the files. Sort them by
@@ -9,7 +9,8 @@ usage: warcdx-cdx [--warcdx PROGRAM] to [INDEX..]
 or nine without M and S. `from` makes the URL keys anew, by PROGRAM, or warcdx of the PATH.
 
 Without a file, or for the file `-`, warcdx-cdx reads standard input. If a line can't be read, it writes what is
-before the line, and reports the line. The exit status is 0; 1 if a line can't be read; 2 after a usage error; or
+before the line, and reports the line. With -o it writes a new FILE, which has its name once all was read, and
+isn't there if a file can't be opened. The exit status is 0; 1 if a line can't be read; 2 after a usage error; or
 3 if a file can't be opened, or reading, writing, memory or the program failed.
 """
 import argparse
@@ -17,31 +18,35 @@ import contextlib
 import functools
 import sys
 from collections.abc import Iterator, Mapping, Sequence
-from typing import IO, Optional
+from typing import IO, BinaryIO, Optional
 
-from . import __version__
-from .cdx import BadRow, CannotRead, cdxj_lines, write_cdx
-from .command import FAILED, FAULTY, Parser, line_of, printable, report, run, status_of
+from .advice import kind_of
+from .cdx import BadRow, CannotRead, NoColumns, cdxj_lines, write_cdx
+from .command import FAILED, FAULTY, Parser, failure, line_of, printable, report, run, status_of
 from .errors import Error, Fault
 from .faults import CannotOpen
+from .outputs import output_of
 from .program import find_program
 from .states import files_of
 from .temporary import temporary_copy
 
 NAME = "warcdx-cdx"
 INPUT = "-"
+COMMANDS = ("to", "from")
+
+
+class NotAll(Exception):
+    """A file can't be read, and was said. So a new file gets no name."""
 
 
 def read_arguments(arguments: Optional[Sequence[str]]) -> argparse.Namespace:
     parser = Parser(NAME, __doc__)
-    parser.add_argument("--version", action="version", version=f"{NAME} {__version__}")
-    parser.add_argument("--warcdx", default="warcdx", metavar="PROGRAM", help="the program (%(default)s)")
-    commands = parser.add_subparsers(dest="command", required=True, metavar="COMMAND", prog=NAME)
-    for name, file, help in (
-        ("to", "INDEX", "write the captures of indexes in eleven columns"),
-        ("from", "CDX", "write the captures of CDX files as lines of an index"),
-    ):
-        commands.add_parser(name, help=help, description=help).add_argument("files", nargs="*", metavar=file)
+    parser.add_output("FILE", "write this new file (default: standard output)")
+    parser.add_argument("--program", default="warcdx", metavar="PROGRAM", help="the program (%(default)s)")
+    parser.add_argument("command", choices=COMMANDS, metavar="to|from", help="what to write: CDX files, or lines of an index")
+    parser.add_argument(
+        "files", nargs="*", default=(), metavar="FILE", help="an index for `to`, a CDX file for `from`; - is standard input"
+    )
     return parser.parse(arguments)
 
 
@@ -57,7 +62,7 @@ def to_cdx(given: argparse.Namespace, output: IO[bytes]) -> int:
         except CannotRead as error:
             report(NAME, str(error))
             return FAILED
-        status = write_captures([copies.get(file, file) for file in files], copies, output, given.warcdx)
+        status = write_captures([copies.get(file, file) for file in files], copies, output, given.program)
     return status
 
 
@@ -92,7 +97,7 @@ def say(fault: Fault) -> int:
 
 
 def from_cdx(given: argparse.Namespace, output: IO[bytes]) -> int:
-    program, status = find_program(given.warcdx), 0
+    program, status = find_program(given.program), 0
     for name in given.files or [INPUT]:
         status = max(status, convert(name, program, output))
     return status
@@ -104,7 +109,8 @@ def convert(name: str, program: str, output: IO[bytes]) -> int:
         with opened(name) as file:
             output.writelines(cdxj_lines(file, program))
     except BadRow as bad:
-        report(NAME, f"{printable(name)}: {bad}")
+        kind = kind_of(name, program) if isinstance(bad, NoColumns) and name != INPUT else ""
+        report(NAME, f"{printable(name)}: {bad}" + (f": {kind}" if kind else ""))
         return FAULTY
     except CannotRead as error:
         report(NAME, f"{printable(name)}: {error}")
@@ -126,13 +132,18 @@ def opened(name: str) -> Iterator[IO[bytes]]:
         yield file
 
 
-def work(arguments: Optional[Sequence[str]], output: IO[bytes]) -> int:
+def work(arguments: Optional[Sequence[str]], output: BinaryIO) -> int:
     given = read_arguments(arguments)
     try:
-        return {"to": to_cdx, "from": from_cdx}[given.command](given, output)
-    except Error as error:
-        report(NAME, error.name if isinstance(error, Fault) else printable(str(error).partition("\n")[0]))
+        with output_of(given.output, output) as file:
+            status = {"to": to_cdx, "from": from_cdx}[given.command](given, file)
+            if status == FAILED:
+                raise NotAll
+            return status
+    except NotAll:
         return FAILED
+    except Error as error:
+        return failure(NAME, error)
 
 
 def main(arguments: Optional[Sequence[str]] = None) -> int:

@@ -2,6 +2,7 @@
 import argparse
 import contextlib
 import io
+import itertools
 import os
 import re
 import sys
@@ -9,9 +10,10 @@ import threading
 from collections.abc import Callable, Sequence
 from typing import BinaryIO, NoReturn, Optional
 
+from . import __version__
 from .ending import Ended as Ended
 from .ending import catch_signals, end_by
-from .errors import Error, Fault
+from .errors import Error, Fault, ProgramMissing, ProgramTooOld
 from .faults import CannotFlush, CannotOpen, Input, Memory, Read, Write
 from .streams import OutputError as OutputError
 from .streams import is_text, message, open_closed_streams, replace_standard_streams, write_error
@@ -26,11 +28,35 @@ _NUMBER = re.compile("[0-9]{1,4}")
 NO_THREAD = "can't start new thread"  # the message of a RuntimeError if there is no memory for a thread
 
 
+# What each command is for, as help names the others.
+TASKS = {
+    "warcdx-gz, warcdx": "index archives, query indexes, list and extract records",
+    "warcdx-update": "keep one index of a folder up to date",
+    "warcdx-fetch": "get a page by its URL, or all that a query selects",
+    "warcdx-verify": "check the digests of archives",
+    "warcdx-cdx": "convert CDX files to indexes, and back",
+    "warcdx-gateway": "serve indexes over HTTP and to browsers",
+}
+
+
 class Parser(argparse.ArgumentParser):
     """Arguments of a command, whose description has its usage. A usage error is one line."""
 
     def __init__(self, prog: str, description: Optional[str] = None) -> None:
-        super().__init__(prog, argparse.SUPPRESS, description, formatter_class=argparse.RawDescriptionHelpFormatter, allow_abbrev=False)
+        others = "".join(f"  {name:18} {task}\n" for name, task in TASKS.items() if name != prog)
+        super().__init__(
+            prog,
+            argparse.SUPPRESS,
+            description,
+            f"Other commands:\n{others}",
+            formatter_class=argparse.RawDescriptionHelpFormatter,
+            allow_abbrev=False,
+        )
+        self.add_argument("-V", "--version", action="version", version=f"{prog} {__version__}", help="print the version")
+
+    def add_output(self, metavar: str, help: str) -> None:
+        """Adds the option -o, which names a file."""
+        self.add_argument("-o", "--output", type=name_of_file, metavar=metavar, help=help)
 
     def parse(self, arguments: Optional[Sequence[str]] = None) -> argparse.Namespace:
         """Returns the arguments of the command. Those that aren't UTF-8 are usage errors, as in the program."""
@@ -40,11 +66,36 @@ class Parser(argparse.ArgumentParser):
         for number, word in enumerate(words, 1):
             if not is_text(word):
                 self.error(f"argument {number} isn't UTF-8")
-        return self.parse_args(words)
+        return self.parse_args(self._in_order(words))
+
+    def _in_order(self, words: Sequence[str]) -> Sequence[str]:
+        """Returns the words with all files in one row, as argparse needs them.
+
+        Its own parse_intermixed_args raises another exception for one that a signal raises within.
+        """
+        if any(action.nargs == argparse.ONE_OR_MORE and action.option_strings for action in self._actions):
+            return words  # an option that takes files takes all that follow it
+        rest, files, options = iter(words), list[str](), list[str]()
+        for word in rest:
+            if word == "--":
+                return [*options, word, *files, *rest]
+            is_option = word.startswith("-") and word != "-"
+            (options if is_option else files).append(word)
+            action = self._option_string_actions.get(word)
+            if action is not None and action.nargs is None:
+                options.extend(itertools.islice(rest, 1))
+        return [*files, *options]
 
     def error(self, message: str) -> NoReturn:
-        report(self.prog, f"error: {printable(message)}")
+        report(self.prog, f"error: {printable(message)}; '{self.prog} --help' has the arguments")
         sys.exit(USAGE)
+
+
+def name_of_file(text: str) -> str:
+    """Reads an argument that is the name of a file."""
+    if not text:
+        raise argparse.ArgumentTypeError("the name is empty")
+    return text
 
 
 def number_from(least: int, most: int) -> Callable[[str], int]:
@@ -148,16 +199,20 @@ def reason_of(error: Exception) -> str:
     return f"{printable(os.fsdecode(error.filename))}: {error.strerror}"
 
 
-def line_of(fault: Fault) -> str:
-    """Returns what is said of a fault: its file and its offset, if they are known, and the cause, as the program says it."""
+def line_of(fault: Fault, advice: str = "") -> str:
+    """Returns what is said of a fault: its file and its offset, if they are known, the cause, and what to do."""
     file = "" if fault.file is None else f"{printable(fault.file)}: "
     place = "" if fault.offset is None else f" {fault.offset}"
-    return f"{file}{'cannot open' if isinstance(fault, CannotOpen) else fault.name}{place}"
+    why = advice or fault.advice
+    if isinstance(fault, CannotOpen):
+        return f"{file}cannot open" + (f" ({fault.reason})" if fault.reason else "")
+    return f"{file}{fault.name}{place}" + (f": {why}" if why else "")
 
 
 def failure(name: str, error: Error) -> int:
     """Reports an exception that ends a command on one line, and returns the exit status."""
-    report(name, printable(str(error).partition("\n")[0]))
+    way = "; --program PROGRAM names another one" if isinstance(error, (ProgramMissing, ProgramTooOld)) else ""
+    report(name, printable(str(error).partition("\n")[0]) + way)
     return FAILED
 
 

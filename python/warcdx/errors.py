@@ -84,8 +84,11 @@ class Fault(Error):
 
     `file` is the path of the archive or index as it was given, and `offset` the offset in bytes at which
     the record or line at fault begins. `number` is that of the index in the order in which they were
-    given, from 0, if a reply has named it. Each is None if the program doesn't name it.
+    given, from 0, if a reply has named it. Each is None if the program doesn't name it. `advice` is what the
+    program says besides: what the fault means, or what to do. It is often empty.
     """
+
+    advice = ""
 
     def __init__(self, name: str, file: Optional[str] = None, offset: Optional[int] = None, number: Optional[int] = None) -> None:
         super().__init__(name, file, offset, number)

@@ -1,7 +1,8 @@
 """Writes the page of a URL from web archives, or what all captures of a query hold.
 
-usage: warcdx-fetch [--index INDEX].. [--archives FOLDER].. [--at TIME] [--record] [-o FILE] [--warcdx PROGRAM] URL
-       warcdx-fetch --all [--index INDEX].. [--archives FOLDER].. [--record] -o OUTPUT [--warcdx PROGRAM] QUERY
+usage: warcdx-fetch [--index INDEX].. [--archives FOLDER].. [--at TIME] [--record] [-o FILE] [--program PROGRAM] URL
+       warcdx-fetch --all [--index INDEX].. [--archives FOLDER].. [--record] [--quiet | --json] -o OUTPUT
+                    [--program PROGRAM] QUERY
 
 Without --all, the capture of the URL that is nearest to TIME is written, or else the latest one. TIME is a date, such as
 2016, 201609 or 2016-09-19, or 14 digits. The page is written as a browser gets it: without headers, chunks and
@@ -10,7 +11,7 @@ compression. For a revisit it is the page of its original. With --record the who
 With --all, every capture that QUERY selects is written: into a new folder OUTPUT, with a file for each and a line
 `FILE TIMESTAMP URL` for each on standard output; or into a new archive, if OUTPUT ends with .warc.gz, with the records as
 they are stored. QUERY is a URL, in which * stands at the end or before the host, or a query as of warcdx query. In a
-line, a URL that isn't printable is a JSON string.
+line, a URL that isn't printable is a JSON string. With --json each line is an object of JSON.
 
 INDEX is by default the file of the variable WARCDX_INDEX, and FOLDER that of WARCDX_ARCHIVES, or else the folder of the
 first INDEX. No file is replaced. One has its name once it is whole. `-o -` is standard output.
@@ -20,32 +21,29 @@ be opened, or reading, writing, memory or the program failed. With --all what ca
 and the others are written.
 """
 import argparse
-import contextlib
-import errno
 import functools
 import itertools
+import json
 import mimetypes
 import os
 import re
-import secrets
 import urllib.parse
 import zlib
 from collections.abc import Iterable, Iterator, Sequence
 from typing import IO, BinaryIO, Optional
 
-from . import __version__
+from .advice import advice_on, advice_on_query
 from .collection import Collection
 from .command import FAILED, FAILURES, FAULTY, Parser, failure, line_of, printable, report, run, status_of
-from .ending import blocked
 from .errors import Error, Fault, NoArchive, Refused
 from .faults import CannotOpen
 from .fetching import moment_of, nearest, opened_page
+from .outputs import STANDARD, check_that_it_is_new, new_file, output_of
 from .query import Capture
 from .record import RecordStream, Unreadable
 
 NAME = "warcdx-fetch"
 ARCHIVE = ".warc.gz"
-STANDARD = "-"  # the name of standard output
 _MOST_NAME = 150  # characters of a file's name that are of its URL
 _UNSAFE = re.compile("[^A-Za-z0-9._-]+")
 _ENDING = re.compile(r"\.[A-Za-z0-9]{1,8}")
@@ -55,28 +53,30 @@ _PARAMETERS = re.compile("[A-Za-z]+=")
 def read_arguments(arguments: Optional[Sequence[str]]) -> argparse.Namespace:
     parser = Parser(NAME, __doc__)
     add = parser.add_argument
-    add("--version", action="version", version=f"{NAME} {__version__}")
     add("--index", action="append", default=[], metavar="INDEX", help="an index of the archives; may be repeated")
     add("--archives", action="append", default=[], metavar="FOLDER", help="a folder with the archives; may be repeated")
     add("--at", type=_moment_of, metavar="TIME", help="write the capture nearest to this time")
     add("--all", action="store_true", help="write every capture that QUERY selects")
     add("--record", action="store_true", help="write records as they are stored")
-    add("-o", "--output", metavar="FILE", help="the new file, or with --all the new folder or archive")
-    add("--warcdx", default="warcdx", metavar="PROGRAM", help="the program (%(default)s); warcdx-gz is beside it, or of the PATH")
+    lines = parser.add_mutually_exclusive_group()
+    lines.add_argument("--quiet", action="store_true", help="print nothing but faults")
+    lines.add_argument("--json", action="store_true", help="with --all, print a line of JSON about each file")
+    parser.add_output("FILE", "the new file, or with --all the new folder or archive")
+    add("--program", default="warcdx", metavar="PROGRAM", help="the program (%(default)s); warcdx-gz is beside it, or of the PATH")
     add("query", metavar="URL")
     given = parser.parse(arguments)
     given.index = given.index or list(filter(None, [os.environ.get("WARCDX_INDEX")]))
     if not given.index:
         parser.error("give --index INDEX, an index of the archives, as 'warcdx index' writes it")
     given.archives = given.archives or [os.environ.get("WARCDX_ARCHIVES") or os.path.dirname(os.path.abspath(given.index[0]))]
-    if given.output == "":
-        parser.error("-o FILE is empty")
     if given.all and given.output in (None, STANDARD):
         parser.error("--all needs -o OUTPUT, a new folder or a new .warc.gz")
     if given.all and given.output.lower().endswith((".warc", ARCHIVE)) and not given.output.endswith(ARCHIVE):
         parser.error("the name of a new archive ends with .warc.gz")
     if given.all and given.at is not None:
         parser.error("--all writes the captures of all times; write from= and to= into QUERY in place of --at")
+    if given.json and (not given.all or given.output.endswith(ARCHIVE)):
+        parser.error("--json is about the files of --all -o FOLDER")
     return given
 
 
@@ -89,7 +89,7 @@ def _moment_of(text: str) -> object:
 
 def fetch(given: argparse.Namespace, output: BinaryIO) -> int:
     """Writes what the arguments name, and returns the exit status. Raises Error or OSError."""
-    with Collection(given.index, given.archives, program=given.warcdx) as collection:
+    with Collection(given.index, given.archives, program=given.program) as collection:
         if not given.all:
             return fetch_page(given, collection, output)
         captures = captures_of(collection, given.query)
@@ -110,14 +110,14 @@ def fetch_page(given: argparse.Namespace, collection: Collection, output: Binary
     capture = nearest(collection.index.captures(url=given.query, matchType="exact"), given.at)
     if capture is None:
         return say_there_is_none(given)
-    with contextlib.nullcontext(output) if given.output in (None, STANDARD) else new_file(given.output) as file:
+    with output_of(given.output, output) as file:
         file.writelines(contents_of(collection, capture, given.record))
     return 0
 
 
 def say_there_is_none(given: argparse.Namespace) -> int:
-    hint = "; --all takes a URL with *" if "*" in given.query and not given.all else ""
-    report(NAME, f"{printable(given.query)}: no index has a capture of it{hint}")
+    hint = "--all takes a URL with *" if "*" in given.query and not given.all else "docs/FAQ.md has the usual causes"
+    report(NAME, f"{printable(given.query)}: no index has a capture of it; {hint}")
     return FAULTY
 
 
@@ -149,8 +149,15 @@ def write_files(given: argparse.Namespace, collection: Collection, captures: Ite
         except Error as error:
             status = max(status, say(capture, error))
         else:
-            output.write(f"{name} {capture.timestamp} {printable(capture.original)}\n".encode())
+            output.write(line_of_file(name, capture, given))
     return status
+
+
+def line_of_file(file: str, capture: Capture, given: argparse.Namespace) -> bytes:
+    """Returns what is printed about a new file, which is nothing for --quiet."""
+    if given.json:
+        return json.dumps({"file": file, "timestamp": capture.timestamp, "url": capture.original}).encode() + b"\n"
+    return b"" if given.quiet else f"{file} {capture.timestamp} {printable(capture.original)}\n".encode()
 
 
 def write_archive(collection: Collection, captures: Iterable[Capture], file: IO[bytes]) -> int:
@@ -185,9 +192,22 @@ def say(capture: Capture, error: Error) -> int:
 
 
 def reason_of(error: Error) -> str:
-    if not isinstance(error, Fault):
-        return printable(str(error))
-    return line_of(error) + (f" ({error.reason})" if isinstance(error, CannotOpen) and error.reason else "")
+    return line_of(error) if isinstance(error, Fault) else printable(str(error))
+
+
+def line_about(fault: Fault, given: argparse.Namespace) -> str:
+    """Returns what is said of a fault that ends the command."""
+    advice = "" if fault.file is None else advice_on(fault, fault.file, given.program)
+    is_archive = isinstance(fault, CannotOpen) and fault.file not in given.index
+    return line_of(fault, advice) + ("; --archives FOLDER names the folder of the archives" if is_archive else "")
+
+
+def refusal_of(refused: Refused, given: argparse.Namespace) -> str:
+    """Returns what is said of a query that is refused."""
+    place = "" if refused.parameter is None else f" in {printable(refused.parameter)}"
+    is_text = _PARAMETERS.match(given.query) is not None
+    why = advice_on_query(given.query, given.program) if is_text else refused.advice
+    return f"the query is refused: {refused.name}{place}" + (f": {why}" if why else " (see docs/QUERY.md)")
 
 
 def name_of(capture: Capture, is_record: bool) -> str:
@@ -212,64 +232,15 @@ def unused(name: str, names: set[str]) -> str:
     return found
 
 
-def check_that_it_is_new(path: str) -> None:
-    if os.path.lexists(path):
-        raise FileExistsError(errno.EEXIST, "it is there, and isn't replaced", path)
-
-
-@contextlib.contextmanager
-def new_file(path: str) -> Iterator[IO[bytes]]:
-    """Makes a file that has its name once it is whole. Raises FileExistsError if anything has the name."""
-    check_that_it_is_new(path)
-    begun = os.path.join(os.path.dirname(path), f".{NAME}-{secrets.token_hex(8)}")
-    with contextlib.ExitStack() as stack:
-        try:
-            with blocked():
-                file = open(begun, "xb")
-                stack.callback(remove, begun, file)
-            yield file
-            file.flush()
-            os.fsync(file.fileno())
-            give_name(begun, path)
-        except OSError as error:
-            if error.filename in (None, begun):
-                error.filename = path
-            raise
-        finally:
-            with blocked():
-                stack.close()
-
-
-def give_name(begun: str, path: str) -> None:
-    """Gives a file its name, and replaces nothing."""
-    try:
-        os.link(begun, path)
-    except FileExistsError:
-        check_that_it_is_new(path)
-        raise
-    except OSError:  # a file system without links, such as that of most USB sticks
-        with blocked():
-            os.close(os.open(path, os.O_WRONLY | os.O_CREAT | os.O_EXCL))
-            os.replace(begun, path)
-
-
-def remove(begun: str, file: IO[bytes]) -> None:
-    with contextlib.suppress(FileNotFoundError):
-        os.remove(begun)
-    with contextlib.suppress(OSError):  # what couldn't be written isn't written again
-        file.close()
-
-
 def work(arguments: Optional[Sequence[str]], output: BinaryIO) -> int:
     given = read_arguments(arguments)
     try:
         return fetch(given, output)
     except Refused as refused:
-        place = "" if refused.parameter is None else f" in {printable(refused.parameter)}"
-        report(NAME, f"{printable(given.query)}: the query is refused: {refused.name}{place} (see docs/QUERY.md)")
+        report(NAME, f"{printable(given.query)}: {refusal_of(refused, given)}")
         return FAULTY
     except Fault as fault:
-        report(NAME, reason_of(fault))
+        report(NAME, line_about(fault, given))
         return status_of(fault)
     except (NoArchive, Unreadable) as error:
         report(NAME, f"{printable(given.query)}: {printable(str(error))}")

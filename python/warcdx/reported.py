@@ -31,8 +31,21 @@ def _without_advice(said: str) -> str:
     return re.sub(_ADVICE, "", said, flags=re.MULTILINE)
 
 
+def advice_in(said: str) -> str:
+    """Returns the first of the second lines of messages, but for those with the system's reason, or an empty text."""
+    lines = (found.strip() for found in re.findall(_ADVICE, said, re.MULTILINE) if not re.match(_SYSTEM, found))
+    return next(lines, "")
+
+
 def error_of(status: int, said: str, program: str = "warcdx") -> Error:
     """Returns what a program of this name has reported on standard error before it ended."""
+    error = _error_of(status, said, program)
+    if isinstance(error, Fault):
+        error.advice = advice_in(said)
+    return error
+
+
+def _error_of(status: int, said: str, program: str) -> Error:
     system = re.search(_SYSTEM, said, re.MULTILINE)
     said = _without_advice(said)
     if found := re.fullmatch(_FAULT_AT, said, re.DOTALL):

@@ -6,6 +6,7 @@ import stat
 from typing import NamedTuple, Optional
 
 from .errors import Error
+from .outputs import STANDARD
 from .streams import printable
 
 _FORM = b'"warcdx-verify --resume 1"\n'
@@ -44,7 +45,7 @@ class Notes:
         with open(self._file, "rb", closefd=False) as file:
             form = file.readline(_MOST_LINE)
             if form not in (b"", _FORM):
-                raise CannotResume(f"{printable(path)} isn't a file of --resume, and stays as it is")
+                raise CannotResume(f"{printable(path)} isn't a file of --resume, and stays as it is: give another name")
             while line := file.readline(_MOST_LINE):
                 self._take(line)
         self._unwritten = b"" if form else _FORM
@@ -82,7 +83,9 @@ class Notes:
 
 
 def _state_of(file: str) -> Optional[_State]:
-    """Returns the state of a regular file, or None if it isn't one, or can't be found."""
+    """Returns the state of a regular file, or None if it isn't one, or can't be found, or is standard input."""
+    if file == STANDARD:
+        return None
     try:
         found = os.stat(file)
     except (OSError, ValueError):

@@ -1,7 +1,7 @@
 """Keeps one index of all archives in a folder up to date.
 
 usage: warcdx-update [--recursive] [--types TYPES] [--remove N|N%|all] [--jobs N | --scheduler ADDRESS] [--single] [--compact]
-                     [--ratio N] [--report] [--all-faults] [--quiet] [--dry-run] [--warcdx PROGRAM] FOLDER INDEX
+                     [--ratio N] [--json] [--all-faults] [--quiet] [--dry-run] [--program PROGRAM] FOLDER INDEX
 
 FOLDER contains the archives: files whose names end with .warc or .warc.gz. Each one is read as a plain or as a
 compressed archive, as its first bytes say. In the index, the file name of an archive is its path below FOLDER.
@@ -29,7 +29,6 @@ from collections import Counter
 from collections.abc import Sequence
 from typing import BinaryIO, Optional
 
-from . import __version__
 from .command import FAILED, Parser, failure, number_from, printable, report, run
 from .errors import Error
 from .files import is_in
@@ -56,7 +55,6 @@ def read_arguments(arguments: Optional[Sequence[str]]) -> argparse.Namespace:
     parser = Parser(NAME, __doc__)
     workers = parser.add_mutually_exclusive_group()
     add = parser.add_argument
-    add("--version", action="version", version=f"{NAME} {__version__}")
     add("--recursive", action="store_true", help="also index the archives in the folders below FOLDER")
     add("--types", type=types_of, default=USUAL, metavar="TYPES", help="the types of records that are indexed, as in warcdx index")
     add(
@@ -77,14 +75,18 @@ def read_arguments(arguments: Optional[Sequence[str]]) -> argparse.Namespace:
     add("--single", action="store_true", help="make INDEX one file, whatever its name is")
     add("--compact", action="store_true", help="merge all runs of the index into one")
     add("--ratio", type=number_from(2, 16), default=8, metavar="N", help="merge N runs of similar sizes, 2 to 16 (%(default)s)")
-    add("--report", action="store_true", help="print a line of JSON about each archive")
+    add("--json", action="store_true", help="print a line of JSON about each archive")
     add("--all-faults", action="store_true", help="report the faults too that an earlier run has reported")
     add("--quiet", action="store_true", help="print nothing but faults")
     add("--dry-run", action="store_true", help="print what would be indexed, removed and kept, and change nothing")
-    add("--warcdx", default="warcdx", metavar="PROGRAM", help="warcdx-gz, or the program beside which it is (%(default)s)")
+    add("--program", default="warcdx", metavar="PROGRAM", help="warcdx-gz, or the program beside which it is (%(default)s)")
     add("folder", metavar="FOLDER")
     add("index", metavar="INDEX")
-    return parser.parse(arguments)
+    add("more", nargs="*", default=(), help=argparse.SUPPRESS)
+    given = parser.parse(arguments)
+    if given.more:
+        parser.error("give one FOLDER, whose archives are found, and one INDEX")
+    return given
 
 
 def types_of(text: str) -> tuple[str, ...]:
@@ -105,8 +107,8 @@ def removal_of(text: str) -> Removal:
 
 def program_of(given: argparse.Namespace) -> str:
     """Returns the program that the tasks run. On a cluster, a name without `/` is that of a program on the worker's PATH."""
-    program = find_packed_program(given.warcdx)
-    return PACKED if given.scheduler and os.sep not in given.warcdx else program
+    program = find_packed_program(given.program)
+    return PACKED if given.scheduler and os.sep not in given.program else program
 
 
 def progress_of(given: argparse.Namespace) -> Silent:
@@ -142,14 +144,23 @@ def expect_usable(settings: Settings, store: Store) -> None:
 def print_plan(given: argparse.Namespace, work: Update, output: BinaryIO) -> None:
     plan, found = work.plan(given.remove)
     for word, names in (("index", [archive.name for archive in plan.new]), ("remove", plan.removed), ("keep", plan.gone)):
-        output.writelines(f"{word} {printable(name)}\n".encode() for name in names)
+        output.writelines(planned_line(word, name, given.json) for name in names)
     if line := found.passed.line():
-        output.write(f"{line}\n".encode())
+        if given.json:
+            report(NAME, line)
+        else:
+            output.write(f"{line}\n".encode())
+
+
+def planned_line(word: str, archive: str, is_json: bool) -> bytes:
+    """Returns what is printed about an archive that would be indexed, removed or kept."""
+    text = json.dumps({"archive": archive, "action": word}) if is_json else f"{word} {printable(archive)}"
+    return text.encode() + b"\n"
 
 
 def say(given: argparse.Namespace, output: BinaryIO, outcome: Outcome) -> Said:
     """Reports the faults that are to be said, and what was done. A fault that standard error doesn't take isn't said."""
-    if given.report:
+    if given.json:
         output.writelines(json.dumps(each.values()).encode() + b"\n" for each in outcome.reports)
         output.flush()
     faults = outcome.faults if given.all_faults else [each for each in outcome.faults if not outcome.is_known(each)]

@@ -35,7 +35,7 @@ class Single:
         """Raises OSError, or CannotUpdate if there is a file that no run of the command has made as it is."""
         found = _known_by(self.path)
         if found is not None and self._store.known(found) is None:
-            raise CannotUpdate(f"no earlier run has made {self.path} as it is, and it isn't replaced")
+            raise CannotUpdate(f"no earlier run has made {self.path} as it is, and it isn't replaced: give another INDEX")
 
     @property
     def is_current(self) -> bool:

@@ -86,7 +86,7 @@ class Settings(NamedTuple):
     def expect(self, made: "Settings") -> None:
         """Raises CannotUpdate if an index was made with other settings."""
         if made.folder != text_of(self.folder):
-            raise CannotUpdate(f"it is the index of another folder, {made.folder}")
+            raise CannotUpdate(f"it is the index of another folder, {made.folder}; give another INDEX")
         if made.recursive != self.recursive:
             raise CannotUpdate(f"it was made {'with' if made.recursive else 'without'} --recursive")
         if made.types != self.types:

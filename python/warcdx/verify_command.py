@@ -1,15 +1,15 @@
 """Compares the digests of blocks and of payloads with the records of archives, plain and compressed.
 
-usage: warcdx-verify [--quiet] [--resume NOTES] [--jobs N] [--warcdx PROGRAM] FILE..
+usage: warcdx-verify [--quiet] [--json] [-o REPORT] [--resume NOTES] [--jobs N] [--program PROGRAM] FILE..
 
-FILE is an archive in WARC, plain or compressed with a member of gzip for each record. warcdx-verify
+FILE is an archive in WARC, plain or compressed with a member of gzip for each record; - is standard input. warcdx-verify
 compares the digests of each head: WARC-Block-Digest with the block, and WARC-Payload-Digest with the
 payload. The algorithms are sha1, sha256, sha512 and md5. Values are in base 32 or in hexadecimal digits.
 
 For each record it prints the record's offset and the verdicts on both:
 
 same       the digest is that of the block or of the payload
-differs    it isn't
+differs    the digest doesn't match
 unknown    the algorithm or the form of the value isn't known, or where the payload begins
 absent     the head has no such field
 elsewhere  the payload of a revisit or of a segment isn't in the record
@@ -17,7 +17,8 @@ empty      a revisit has the digest of an empty block, as GNU Wget writes
 
 A damaged archive has `fault OFFSET CAUSE` as its last line. If there are several archives, a line
 `NAME:` precedes the lines of each. With --quiet, only records that differ and faults are printed,
-each as `NAME: ` and its line.
+each as `NAME: ` and its line. With --json each line is an object with the members archive, offset,
+and block and payload or else fault.
 
 The exit status is 0 if each archive is whole, none of its digests differs, and one at least is the
 same; 1 if not; 2 after a usage error; or 3 if a file can't be opened, or reading, writing, memory or
@@ -26,21 +27,24 @@ the program failed.
 import argparse
 import contextlib
 import functools
+import json
 import os
+import sys
 from collections import Counter
 from collections.abc import Iterator, Sequence
-from typing import BinaryIO, NamedTuple, Optional
+from typing import BinaryIO, NamedTuple, Optional, Union
 
-from . import __version__
+from .advice import advice_on
 from .archive import Archive, open_archive
-from .command import FAILED, FAULTY, Parser, failure, line_of, number_from, printable, report, run, status_of
+from .command import FAILED, FAULTY, Parser, failure, line_of, number_from, printable, reason_of, report, run, status_of
 from .errors import Error, Fault
-from .faults import CannotOpen
+from .faults import cannot_open
+from .outputs import STANDARD, check_that_it_is_new, output_of
 from .progress import Lines, Silent, bar_on_terminal
 from .record_digests import Verdict
 from .resuming import CannotResume, Notes
 from .temporary import temporary_copy
-from .verifying import check_archive
+from .verifying import Checked, check_archive
 from .workers import run_one_by_one, run_side_by_side
 
 NAME = "warcdx-verify"
@@ -48,31 +52,65 @@ NAME = "warcdx-verify"
 
 def read_arguments(arguments: Optional[Sequence[str]]) -> argparse.Namespace:
     parser = Parser(NAME, __doc__)
-    parser.add_argument("--version", action="version", version=f"{NAME} {__version__}")
     help_quiet = "print only records that differ and faults, and a summary if there are any"
     parser.add_argument("--quiet", action="store_true", help=help_quiet)
+    parser.add_argument("--json", action="store_true", help="print each line as an object of JSON, with the name of the archive")
+    parser.add_output("REPORT", "write the lines to this new file (default: standard output)")
     help_resume = "note which archives were good in this file, and pass over those that it names"
     parser.add_argument("--resume", metavar="NOTES", help=help_resume)
     help_jobs = "how many archives to check at a time (%(default)s)"
     parser.add_argument("--jobs", type=number_from(1, 1000), default=1, metavar="N", help=help_jobs)
     help_program = "the program (%(default)s); for compressed archives warcdx-gz beside it, or of the PATH"
-    parser.add_argument("--warcdx", default="warcdx", metavar="PROGRAM", help=help_program)
+    parser.add_argument("--program", default="warcdx", metavar="PROGRAM", help=help_program)
     parser.add_argument("files", nargs="+", metavar="FILE")
-    return parser.parse(arguments)
+    given = parser.parse(arguments)
+    if given.files.count(STANDARD) > 1:
+        parser.error("standard input (-) can be read once, and is given twice")
+    return given
+
+
+class Text:
+    """The lines about an archive as they are read: below a heading, or each with the name of the archive before it."""
+
+    def __init__(self, archive: str, is_quiet: bool, is_alone: bool) -> None:
+        self.heading = b"" if is_quiet or is_alone else os.fsencode(f"{archive}:\n")
+        self._name = os.fsencode(f"{printable(archive)}: ") if is_quiet else b""
+
+    def record(self, found: Checked) -> bytes:
+        return self._name + f"{found.offset} {found.block.value} {found.payload.value}\n".encode()
+
+    def fault(self, offset: int, cause: str) -> bytes:
+        return self._name + f"fault {offset} {cause}\n".encode()
+
+
+class Json:
+    """The lines about an archive as objects of JSON."""
+
+    heading = b""
+
+    def __init__(self, archive: str) -> None:
+        self._archive = archive
+
+    def record(self, found: Checked) -> bytes:
+        return self._line(offset=found.offset, block=found.block.value, payload=found.payload.value)
+
+    def fault(self, offset: int, cause: str) -> bytes:
+        return self._line(offset=offset, fault=cause)
+
+    def _line(self, **members: "int | str") -> bytes:
+        return json.dumps({"archive": self._archive, **members}).encode() + b"\n"
 
 
 class Style(NamedTuple):
-    """How the records of an archive are printed: in all lines below a heading, or faults only, each with a name before it."""
+    """How what was found of an archive is printed, and whether only faults are."""
 
-    heading: bytes
-    name: bytes
+    lines: Union[Text, Json]
     is_quiet: bool
 
     @classmethod
-    def of(cls, file: str, is_quiet: bool, is_alone: bool) -> "Style":
-        if is_quiet:
-            return cls(b"", os.fsencode(f"{printable(file)}: "), True)
-        return cls(b"" if is_alone else os.fsencode(f"{file}:\n"), b"", False)
+    def of(cls, archive: str, given: argparse.Namespace) -> "Style":
+        is_alone = len(given.files) == 1
+        return cls(Json(archive) if given.json else Text(archive, given.quiet, is_alone), given.quiet)
 
 
 def check(file: str, program: str, style: Style, output: BinaryIO) -> int:
@@ -80,21 +118,25 @@ def check(file: str, program: str, style: Style, output: BinaryIO) -> int:
     try:
         with read_again(file) as path:
             archive = open_archive(path, program=program)
-            output.write(style.heading)
-            return print_archive(file, archive, style, output)
+            output.write(style.lines.heading)
+            return print_archive(file, archive, program, style, output)
     except Fault as error:
         error.file = error.file and file  # and not that of a copy
-        report(NAME, line_of(error))
+        report(NAME, line_of(error) + ("; name the archives in it" if os.path.isdir(file) else ""))
         return status_of(error)
 
 
 @contextlib.contextmanager
 def read_again(file: str) -> Iterator[str]:
     """Yields the path of a file, or of a copy of one that can be read only once, such as a pipe. Raises CannotOpen."""
+    if file == STANDARD:
+        with temporary_copy(sys.stdin.buffer) as path:
+            yield path
+        return
     try:
         source = open(file, "rb", buffering=0)
     except (OSError, ValueError) as error:
-        raise CannotOpen("CannotOpen", file) from error
+        raise cannot_open(file, error.errno if isinstance(error, OSError) else None) from error
     with source:
         if source.seekable():
             yield file
@@ -103,18 +145,18 @@ def read_again(file: str) -> Iterator[str]:
             yield path
 
 
-def print_archive(file: str, archive: Archive, style: Style, output: BinaryIO) -> int:
+def print_archive(file: str, archive: Archive, program: str, style: Style, output: BinaryIO) -> int:
     """Prints the records of an archive, and the fault of a damaged one. Raises a fault that has no offset."""
-    status, found = 0, set[Verdict]()
+    status, found, advice = 0, set[Verdict](), ""
     try:
         print_records(archive, style, output, found)
     except Fault as error:
         if error.offset is None:
             raise
-        output.write(b"%bfault %d %b\n" % (style.name, error.offset, error.name.encode()))
-        status = status_of(error)
+        output.write(style.lines.fault(error.offset, error.name))
+        status, advice = status_of(error), advice_on(error, archive.path, program)
     if not any(verdict.is_compared for verdict in found):
-        report(NAME, f"{printable(file)}: no digest was compared")
+        report(NAME, f"{printable(file)}: {advice or 'no digest was compared'}")
         return max(status, FAULTY)
     return max(status, FAULTY) if Verdict.DIFFERS in found else status
 
@@ -126,8 +168,7 @@ def print_records(archive: Archive, style: Style, output: BinaryIO, found: set[V
             verdicts = {record.block, record.payload}
             found |= verdicts
             if Verdict.DIFFERS in verdicts or not style.is_quiet:
-                line = f"{record.offset} {record.block.value} {record.payload.value}\n"
-                output.write(style.name + line.encode())
+                output.write(style.lines.record(record))
 
 
 class Run:
@@ -145,9 +186,8 @@ class Run:
 
     def check_all(self, output: BinaryIO) -> int:
         """Checks each archive that isn't known to be good, and returns the exit status."""
-        given, is_alone = self._given, len(self._given.files) == 1
-        styles = [Style.of(file, given.quiet, is_alone) for file in self._files]
-        works = [functools.partial(check, file, given.warcdx, style) for file, style in zip(self._files, styles)]
+        given = self._given
+        works = [functools.partial(check, file, given.program, Style.of(file, given)) for file in self._files]
         self._progress.begin(len(works), sum(self._sizes))
         try:
             if given.jobs > 1 and len(works) > 1 or type(self._progress) is not Silent:
@@ -208,7 +248,7 @@ def progress_of(given: argparse.Namespace, archives: int) -> Silent:
 
     That is nothing if the lines of records show it, or are written as the records are read, as for `head`.
     """
-    is_shown = given.quiet or given.jobs > 1 and not os.isatty(1)
+    is_shown = given.quiet or (given.jobs > 1 or given.output) and not os.isatty(1)
     if archives < 2 or not is_shown or not os.isatty(2):
         return Silent()
     return bar_on_terminal() or Lines(NAME)
@@ -229,13 +269,19 @@ def _reason_without_notes(file: str, error: OSError) -> str:
 def work(arguments: Optional[Sequence[str]], output: BinaryIO) -> int:
     given = read_arguments(arguments)
     try:
+        if given.output not in (None, STANDARD):
+            check_that_it_is_new(given.output)  # before notes are made
         archives = Run(given)
+    except FileExistsError as error:
+        report(NAME, reason_of(error))
+        return FAILED
     except CannotResume as error:
         return failure(NAME, error)
     except OSError as error:
         report(NAME, _reason_without_notes(given.resume, error))
         return FAILED
-    return archives.check_all(output)
+    with output_of(given.output, output) as file:
+        return archives.check_all(file)
 
 
 def main(arguments: Optional[Sequence[str]] = None) -> int:

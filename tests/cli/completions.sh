@@ -104,18 +104,18 @@ END
 cd "$work/both"
 expect_offers << END
 warcdx-verify |a.warc b.warc.gz
-warcdx-verify --|--help --jobs --quiet --resume --version --warcdx
+warcdx-verify --|--help --jobs --json --output --program --quiet --resume --version
 warcdx-verify --q|--quiet
 warcdx-verify --quiet |a.warc b.warc.gz
-warcdx-verify --j|--jobs
+warcdx-verify --j|--jobs --json
 warcdx-verify --jobs |
 warcdx-verify --jobs 2 |a.warc b.warc.gz
 warcdx-verify a.warc --v|--version
-warcdx-fetch --|--all --archives --at --help --index --output --record --version --warcdx
+warcdx-fetch --|--all --archives --at --help --index --json --output --program --quiet --record --version
 warcdx-fetch --a|--all --archives --at
 warcdx-fetch --at |
-warcdx-update --|--all-faults --compact --dry-run --help --jobs --quiet --ratio --recursive --remove --report --scheduler --single --types --version --warcdx
-warcdx-update --re|--recursive --remove --report
+warcdx-update --|--all-faults --compact --dry-run --help --jobs --json --program --quiet --ratio --recursive --remove --scheduler --single --types --version
+warcdx-update --re|--recursive --remove
 warcdx-update --jobs |
 warcdx-update --remove |
 warcdx-update --scheduler |
@@ -140,13 +140,16 @@ END
 cd "$work/cdx"
 expect_offers << END
 warcdx-cdx |from to
-warcdx-cdx --w|--warcdx
+warcdx-cdx --|--help --output --program --version
 warcdx-cdx --v|--version
-warcdx-cdx --warcdx a.cdx f|from
+warcdx-cdx --program a.cdx f|from
 warcdx-cdx from |a.cdx
 warcdx-cdx from a.cdx |a.cdx
 warcdx-cdx from --h|--help
-warcdx-cdx --warcdx x from |a.cdx
+warcdx-cdx from --o|--output
+warcdx-cdx --output new from |a.cdx
+warcdx-cdx from --output new |a.cdx
+warcdx-cdx --program x from |a.cdx
 END
 cd "$work/indexes"
 expect_offers << END

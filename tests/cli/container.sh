@@ -84,7 +84,7 @@ check_server() {
     # shellcheck disable=SC2016 # the shell there expands it
     requests='for _ in $(seq 100); do curl --silent --fail -o /dev/null http://127.0.0.1:8080/health && break; sleep 0.1; done
         curl --silent "http://127.0.0.1:8080/cdx?url=127.0.0.1:8000/odd/gone&fl=original,statuscode"
-        curl --silent -o /dev/null -w "%{http_code}\n" http://127.0.0.1:8080/browse
+        curl --silent --location -o /dev/null -w "%{http_code}\n" http://127.0.0.1:8080/browse
         curl --silent -o /dev/null -w "%{http_code}\n" -H "Host: other.example" "http://127.0.0.1:8080/cdx?url=x"
         ps -e -o uid= -o comm= | sed -n "s/^ *\([0-9]* \(nginx\|python3\|warcdx\)\)$/\1/p" | sort --unique'
     # shellcheck disable=SC2016 # the shell there expands it

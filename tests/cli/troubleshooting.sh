@@ -243,7 +243,7 @@ ulimit -n 4096
 sees "1,025 indexes" "" "warcdx: TooManySources" 1 merge response.cdxj "${indexes[@]}"
 
 cdx() {
-    "$root/python/bin/warcdx-cdx" --warcdx "$program" "$@"
+    "$root/python/bin/warcdx-cdx" --program "$program" "$@"
 }
 
 row "\`BadLine 0\` of a file with \` CDX \` in its first line"

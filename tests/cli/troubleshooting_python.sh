@@ -9,38 +9,46 @@ run_python() {
 row "\`no such program\`, \`not the program warcdx\`, \`is needed\`"
 printf '#!/bin/sh\necho warcdx 0.0.1\n' > old
 chmod 755 old
-shows "no program" "no such program" run_python verify --warcdx nosuch response.warc
-shows "another program" "not the program warcdx" run_python verify --warcdx /bin/true response.warc
-shows "an old program" "is needed" run_python verify --warcdx ./old response.warc
+shows "no program" "no such program" run_python verify --program nosuch response.warc
+shows "another program" "not the program warcdx" run_python verify --program /bin/true response.warc
+shows "an old program" "is needed" run_python verify --program ./old response.warc
+
+row "\`it needs Python\`"
+old_python() {
+    PATH=/nonexistent /usr/bin/python3 -c 'import runpy, sys
+sys.version_info, sys.argv = (3, 8, 0, "final", 0), sys.argv[1:]
+runpy.run_path(sys.argv[0], run_name="__main__")' "$root/python/bin/warcdx-verify" --help
+}
+shows "an old Python" "it needs Python 3.9 or later" old_python
 
 row "\`warcdx has ended with\`, \`warcdx-gz has ended with\`"
 # shellcheck disable=SC2016 # the other shell expands it
 printf '#!/bin/sh\n[ "$1" != --help ] || exec "%s" "$@"\nkill -9 $$\n' "$program" > killed
 chmod 755 killed
-shows "a program that is killed" "warcdx has ended with signal 9" run_python verify --warcdx ./killed "$root/samples/damaged.warc"
+shows "a program that is killed" "warcdx has ended with signal 9" run_python verify --program ./killed "$root/samples/damaged.warc"
 
 row "\`a pipe can be read only once, by list, verify or index; save it to a file\`"
 row "\`the query is refused\`"
 row "\`no index has a capture of it\`"
 "$program" index "$root/samples/response.warc" > response.cdxj
-shows "no capture" "no index has a capture of it" run_python fetch --warcdx "$program" --index response.cdxj http://example.com/none
+shows "no capture" "no index has a capture of it" run_python fetch --program "$program" --index response.cdxj http://example.com/none
 row "\`it is a revisit, and no index has its original\`"
 row "\`it is there, and isn't replaced\`"
 : > there
-shows "a file" "it is there, and isn't replaced" run_python fetch --warcdx "$program" --index response.cdxj --archives "$root/samples" -o there http://example.com/
-row "\`isn't a file of --resume, and stays as it is\`, \`isn't a regular file\`"
+shows "a file" "it is there, and isn't replaced" run_python fetch --program "$program" --index response.cdxj --archives "$root/samples" -o there http://example.com/
+row "\`isn't a file of --resume, and stays as it is: give another name\`, \`isn't a regular file\`"
 echo other > notes
-shows "a file of another program" "isn't a file of --resume, and stays as it is" run_python verify --warcdx "$program" --resume notes "$root/samples/wget.warc"
-shows "a folder" "isn't a regular file" run_python verify --warcdx "$program" --resume . "$root/samples/wget.warc"
+shows "a file of another program" "isn't a file of --resume, and stays as it is" run_python verify --program "$program" --resume notes "$root/samples/wget.warc"
+shows "a folder" "isn't a regular file" run_python verify --program "$program" --resume . "$root/samples/wget.warc"
 row "\`no digest was compared\`"
-shows "an archive without digests" "no digest was compared" run_python verify --warcdx "$program" response.warc
+shows "an archive without digests" "no digest was compared" run_python verify --program "$program" response.warc
 
 row "\`a process has ended with signal\`"
 row "\`the archive ends in the record\`"
 
 row "\`another process updates this index\`"
 prepare_locked() {
-    run_python update --warcdx "$program" --quiet folder locked
+    run_python update --program "$program" --quiet folder locked
 }
 prints "a first run" "" prepare_locked
 # Another process has the database, as an update has.
@@ -50,15 +58,15 @@ locked() {
         database = sqlite3.connect("locked.d/state.db", isolation_level=None)
         database.execute("BEGIN EXCLUSIVE")
         sys.exit(subprocess.call(sys.argv[1:]))
-    ' "$root/python/bin/warcdx-update" --warcdx "$program" --quiet folder locked
+    ' "$root/python/bin/warcdx-update" --program "$program" --quiet folder locked
 }
 shows "a second run" "another process updates this index" locked
 
 update() { # ARGUMENT..
-    run_python update --warcdx "$program" --quiet "$@"
+    run_python update --program "$program" --quiet "$@"
 }
 
-row "\`as it is, and it isn't replaced\`, \`isn't a regular file, and isn't replaced\`"
+row "\`as it is, and it isn't replaced: give another INDEX\`, \`isn't a regular file, and isn't replaced\`"
 echo x > text
 shows "another file" "as it is, and it isn't replaced" update folder text
 mkfifo indexpipe

@@ -89,7 +89,7 @@ def texts_of(made: Input, size: int) -> Iterator[str]:
 def run_of(program: pathlib.Path, folder: pathlib.Path, words: Sequence[str]) -> tuple[pathlib.Path, pathlib.Path, Sequence[str]]:
     """Returns what `measure` takes. A command in Python is given the program."""
     if words[0].startswith("warcdx-"):
-        return ROOT / "python/bin" / words[0], folder, ("--warcdx", str(program), *words[1:], "input")
+        return ROOT / "python/bin" / words[0], folder, ("--program", str(program), *words[1:], "input")
     return program, folder, (*words, "input")
 
 

@@ -49,7 +49,7 @@ class Command(NamedTuple):
 
 
 def commands_of(program: pathlib.Path) -> Iterator[Command]:
-    folder, of_warcdx = ROOT / "python/bin", ("--warcdx", str(program))
+    folder, of_warcdx = ROOT / "python/bin", ("--program", str(program))
     find_packed_program(program)  # which the commands find too
     for name, status, *words in (
         ("warcdx-verify", 0, "digests.warc.gz"),

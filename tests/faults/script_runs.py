@@ -62,10 +62,11 @@ def scripts_of(program: pathlib.Path) -> tuple[Script, ...]:
     """Returns the runs of each command. A new command has its own here."""
     fetch, verify, cdx = (ROOT / "python/bin" / name for name in ("warcdx-fetch", "warcdx-verify", "warcdx-cdx"))
     find_packed_program(program)  # which warcdx-verify finds too
-    of_warcdx = ("--warcdx", str(program))
+    of_warcdx = ("--program", str(program))
     return (
         Script("warcdx-verify", verify, (*of_warcdx, "digests.warc.gz"), "digests.warc.gz"),
         Script("warcdx-verify of a plain archive", verify, (*of_warcdx, "digests.warc"), "digests.warc"),
+        Script("warcdx-verify of standard input", verify, (*of_warcdx, "-"), reads="digests.warc.gz"),
         Script(
             "warcdx-verify of two at a time", verify, (*of_warcdx, "--jobs", "2", "digests.warc.gz", "digests.warc"), most_lines=2
         ),

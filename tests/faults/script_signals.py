@@ -117,7 +117,7 @@ def cut_while_read(run: Run) -> Iterator[str]:
         is_cut = True
         is_named = any(word in found.error + found.output for word in (b"fault ", b": line ", b"BadLine ", b": Read"))
         is_reported = is_named and found.error.count(b"\n") <= run.script.most_lines
-        is_unread = found.error.endswith(b": Read\n")  # by the program, which knows the size
+        is_unread = b": Read: " in found.error or found.error.endswith(b": Read\n")  # by the program, which knows the size
         expect(found.status == (3 if is_unread else 1) and is_reported, found.status, found.error, found.output[-300:])
         break
     yield "a file that is cut" if is_cut else "a file that is cut: left out, as it was read before each time"

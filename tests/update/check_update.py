@@ -8,6 +8,7 @@ strace and python3-tqdm; without these they are left out. The moments at which r
 """
 import contextlib
 import importlib.util
+import json
 import os
 import pathlib
 import pty
@@ -234,7 +235,10 @@ def a_further_run_indexes_what_is_new(program: pathlib.Path, folder: pathlib.Pat
     expect("time", (trial.archives / "11.warc").stat().st_mtime_ns, same)
     trial.forget()
     for words, last in (((), "keep"), (("--remove", "1"), "remove")):
-        dry = subprocess.run(trial.command("--dry-run", *words), stdout=subprocess.PIPE, check=True).stdout.decode()
+        dry = subprocess.run(trial.usual_command("--dry-run", *words), stdout=subprocess.PIPE, check=True).stdout.decode()
+        lines = subprocess.run(trial.command("--dry-run", *words), stdout=subprocess.PIPE, check=True).stdout.splitlines()
+        shown = "".join(f"{line['action']} {line['archive']}\n" for line in map(json.loads, lines))
+        expect("what would be done, in JSON", shown, dry)
         expect("what would be done", dry, f"index 05.warc\nindex 09.warc\nindex 11.warc\nindex new.warc\n{last} 03.warc\n")
     expect("status", trial.run("--remove", "1"), 1)
     expect("archives", {name for _, name in trial.begun}, {"05.warc", "09.warc", "11.warc", "new.warc"})
@@ -298,7 +302,7 @@ def another_file_is_not_replaced(program: pathlib.Path, folder: pathlib.Path) ->
     trial = Trial(program, folder)
     copy_sample("wget", trial.index)
     expect("status", trial.run(), 3)
-    line = f"warcdx-update: {trial.index}: no earlier run has made {trial.index} as it is, and it isn't replaced"
+    line = f"warcdx-update: {trial.index}: no earlier run has made {trial.index} as it is, and it isn't replaced: give another INDEX"
     expect("line", trial.said, [line])
     expect("file", trial.index.read_bytes(), sample("wget"))
     expect("folder of the index", trial.store.exists(), False)

@@ -71,13 +71,13 @@ def a_report_is_printed(program: pathlib.Path, folder: pathlib.Path) -> None:
     for before in (b"", b"before\n"):
         with open(log, "wb", buffering=0) as output:
             output.write(before)
-            command = trial.usual_command("--quiet", "--report")
+            command = trial.usual_command("--quiet", "--json")
             expect("status", subprocess.run(command, stdout=output, stderr=output, timeout=WAIT).returncode, 0)
             output.write(b"after\n")
         expect("what the file has", log.read_bytes(), before + report + b"after\n")
     copy_sample("response", trial.archives / "new.warc")
     with open("/dev/full", "wb") as full:
-        command = trial.usual_command("--quiet", "--report")
+        command = trial.usual_command("--quiet", "--json")
         expect("status with a full disk", subprocess.run(command, stdout=full, stderr=full, timeout=WAIT).returncode, 3)
     expect("index", trial.index.read_bytes() == trial.index_of("*.warc"), True)
 

@@ -50,7 +50,7 @@ def a_fault_is_reported_once(program: pathlib.Path, folder: pathlib.Path) -> Non
         "other": "warcdx-update: 07.warc: fault 0 Version",
     }
     def ends(name: str, status: int, *words: object, said: tuple[str, ...] = ()) -> None:
-        expect(f"status of {name}", trial.run_usually("--quiet", "--report", *words), status)
+        expect(f"status of {name}", trial.run_usually("--quiet", "--json", *words), status)
         expect(f"lines of {name}", trial.said, [lines[each] for each in said])
 
     def expect_faults(name: str, wanted: dict[str, int]) -> None:

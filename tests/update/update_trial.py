@@ -117,10 +117,10 @@ class Trial:
 
     def command(self, *words: object) -> list[str]:
         """Returns the command with these options, which reports known faults too."""
-        return self.usual_command("--all-faults", "--report", *words)
+        return self.usual_command("--all-faults", "--json", *words)
 
     def usual_command(self, *words: object) -> list[str]:
-        return [*map(str, (COMMAND, "--warcdx", self.program, *words)), str(self.archives), str(self.index)]
+        return [*map(str, (COMMAND, "--program", self.program, *words)), str(self.archives), str(self.index)]
 
     def start(self, *words: object, **options: Any) -> "subprocess.Popen[bytes]":
         with open(self.folder / "said", "wb") as said, open(self.report, "wb") as report:

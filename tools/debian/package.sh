@@ -18,22 +18,22 @@ move_to_debian_places() { # PREFIX
     mv "$1/share/zsh/site-functions" "$1/share/zsh/vendor-completions"
     ln --symbolic --force ../../common-licenses/Apache-2.0 "$documents/LICENSE"
     print_copyright > "$documents/copyright"
-    move_scripts "$documents" "$1"
-    move_python_package "$documents/python" "$1/lib/python3/dist-packages"
-    mv "$documents/gateway/warcdx_gateway" "$1/lib/python3/dist-packages"
+    move_code "$1/share/warcdx" "$1/lib/python3/dist-packages"
     mkdir --parents "${1%/usr}/lib/systemd/system"
     mv "$documents/gateway/service/warcdx-gateway.service" "${1%/usr}/lib/systemd/system"
     print_changelog | gzip --no-name -9 > "$documents/changelog.gz"
 }
 
-move_scripts() { # DOCUMENTS PREFIX
+# move_code CODE MODULES: moves the packages to Debian's modules, and the scripts into the folder CODE.
+move_code() {
     local script
-    mkdir --parents "$2/share/warcdx"
+    move_python_package "$1/python" "$2"
+    mv "$1/gateway/warcdx_gateway" "$2"
     for script in "$1"/{python,gateway}/bin/*; do
-        mv "$script" "$2/share/warcdx"
-        print_start "$script" "/usr/share/warcdx/${script##*/}" > "$2/bin/${script##*/}"
+        mv "$script" "$1"
+        print_start "$script" "/usr/share/warcdx/${script##*/}" > "$1/../../bin/${script##*/}"
     done
-    rmdir "$1"/{python,gateway}/bin
+    rmdir "$1"/{python,gateway}/bin "$1"/{python,gateway}
 }
 
 print_copyright() { # with the terms of the libraries, as a field of more than one line

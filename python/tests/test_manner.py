@@ -1,0 +1,185 @@
+"""What all commands have in common: help, version, usage errors, places of options, and the version of Python."""
+import gzip
+import os
+import pathlib
+import re
+import signal
+import subprocess
+import sys
+import unittest
+from types import FrameType
+from typing import Any
+
+from warcdx.command import TASKS, Parser
+from warcdx.ending import Ended
+
+from .support import PROGRAM, SAMPLES, Case, lines
+
+PYTHON = pathlib.Path(__file__).resolve().parents[1]
+COMMANDS = sorted((PYTHON / "bin").iterdir())
+GATEWAY = PYTHON.parent / "gateway/bin/warcdx-gateway"
+VERSION = (PYTHON / "VERSION").read_text().strip()
+# Runs a script as if this Python had another version.
+AS_PYTHON = """
+import runpy, sys
+sys.version_info, sys.argv = (%d, %d, 1, "final", 0), sys.argv[1:]
+runpy.run_path(sys.argv[0], run_name="__main__")
+"""
+
+
+class Runs(Case):
+    def run_command(self, *command: object, **environment: str) -> "tuple[int, str, str]":
+        done = subprocess.run(list(map(str, command)), cwd=self.folder, capture_output=True, text=True, env=environment or None)
+        return done.returncode, done.stdout, done.stderr
+
+
+class Manner(Runs):
+    def test_help_names_the_other_commands(self) -> None:
+        for path in COMMANDS:
+            status, found, said = self.run_command(sys.executable, path, "-h")
+            self.assertEqual((0, found, said), self.run_command(sys.executable, path, "--help"))
+            named = found.partition("Other commands:\n")[2]
+            self.assertEqual([name for name in TASKS if name != path.name], [line[2:].split("  ")[0] for line in named.splitlines()])
+            self.assertEqual((0, ""), (status, said))
+
+    def test_the_tasks_are_those_of_the_page(self) -> None:
+        page = (PYTHON.parent / "docs/COMMANDS.md").read_text()
+        rows = re.findall(r"^\| ((?:`warcdx[a-z-]*`(?:, )?)+) \| ([^|]*) \|", page, re.MULTILINE)[: len(TASKS)]
+        self.assertEqual({name.replace("`", ""): task for name, task in rows}, TASKS)
+
+    def test_the_version(self) -> None:
+        for path in COMMANDS:
+            for word in ("-V", "--version"):
+                self.assertEqual((0, f"{path.name} {VERSION}\n", ""), self.run_command(sys.executable, path, word))
+
+    def test_a_usage_error_is_one_line_that_names_help(self) -> None:
+        for path in COMMANDS:
+            for words in ((), ("--no-such-option",), ("--program",)):
+                status, found, said = self.run_command(sys.executable, path, *words)
+                self.assertEqual((2, ""), (status, found))
+                self.assertRegex(said, rf"\A{path.name}: error: .*; '{path.name} --help' has the arguments\n\Z")
+
+    def test_options_stand_before_or_behind_files(self) -> None:
+        archive, names = SAMPLES / "wget.warc", [f"--program={PROGRAM}", "--quiet"]
+        command = (sys.executable, PYTHON / "bin/warcdx-verify")
+        for words in (
+            (*names, archive), (archive, *names), (names[0], archive, names[1]), ("--program", PROGRAM, archive, "--quiet"),
+            (archive, "--quiet", "--program", PROGRAM, archive), (archive, *names, "--", archive), (*names, "--", archive),
+        ):  # fmt: skip
+            self.assertEqual((0, "", ""), self.run_command(*command, *words))
+        status, found, said = self.run_command(*command, archive, archive, "-o")
+        self.assertEqual((2, ""), (status, found))
+        self.assertIn("-o/--output: expected one argument", said)
+        index = self.put("")
+        command = (sys.executable, PYTHON / "bin/warcdx-cdx")
+        wanted = (0, " CDX N b a m s k r M S V g\n", "")
+        for words in (("to", index, names[0]), (names[0], "to", index), ("to", names[0], index, index), ("to", index, names[0], index)):
+            self.assertEqual(wanted, self.run_command(*command, *map(str, words)))
+
+
+class Messages(Runs):
+    """Of usual mistakes, a line says what is wrong, where, and what to do."""
+
+    def test_a_file_of_another_kind(self) -> None:
+        for name, text in (
+            ("a.wacz", b"PK\x03\x04" + bytes(100)), ("a.html", b"<!doctype html><p>x"), ("a.warc", (SAMPLES / "response.warc").read_bytes()),
+            ("a.cdx.gz", gzip.compress(b"x")), ("a.warc.gz", gzip.compress((SAMPLES / "wget.warc").read_bytes())),
+        ):  # fmt: skip
+            (self.folder / name).write_bytes(text)
+        index = self.put(lines(1), "a.cdxj")
+        for words, wanted in (
+            (("verify", "a.wacz"), "a.wacz: It is a ZIP file, as a WACZ file is: "),
+            (("verify", "--quiet", "a.html"), "a.html: It seems to be an HTML or XML file"),
+            (("verify", "a.warc.gz"), "a.warc.gz: Each record has to be a member of gzip of its own: "),
+            (("verify", index), f"{index}: It seems to be an index: warcdx query reads indexes."),
+            (("cdx", "to", "a.warc"), "a.warc: BadLine 0: It is a WARC file: "),
+            (("cdx", "from", "a.cdx.gz"), "a.cdx.gz: line 1: it has 1 column, and not 11 or 9; a header names other columns: It is compressed by gzip: "),
+            (("cdx", "from", index), "a header names other columns: It is an index: warcdx-cdx to reads indexes."),
+            (("fetch", "--index", "a.warc", "http://example.com/"), "a.warc: BadLine 0: It is a WARC file: "),
+        ):  # fmt: skip
+            status, _, said = self.run_on_program(*words)
+            self.assertEqual(1, status, words)
+            self.assertIn(wanted, said)
+
+    def test_what_is_not_there(self) -> None:
+        index = self.put(lines(1), "a.cdxj")
+        for words, wanted in (
+            (("verify", "nosuch"), "nosuch: cannot open (No such file or directory)"),
+            (("verify", "."), ".: cannot open (Is a directory); name the archives in it"),
+            (("cdx", "to", "."), ".: cannot open (Is a directory)"),
+            (("fetch", "--index", index, "http://example.com/0000000"), "; --archives FOLDER names the folder of the archives"),
+        ):
+            status, _, said = self.run_on_program(*words)
+            self.assertEqual((3, 1), (status, said.count("\n")), words)
+            self.assertIn(wanted, said)
+        command = (sys.executable, PYTHON / "bin/warcdx-verify", "--program", "nosuch", index)
+        said = "warcdx-verify: nosuch: no such program; --program PROGRAM names another one\n"
+        self.assertEqual((3, "", said), self.run_command(*command))
+
+    def test_several_archives_for_one_folder(self) -> None:
+        status, found, said = self.run_on_program("update", "a.warc", "b.warc", "all.cdxj")
+        self.assertEqual((2, ""), (status, found))
+        self.assertIn("give one FOLDER, whose archives are found, and one INDEX", said)
+
+    def run_on_program(self, name: str, *words: object) -> "tuple[int, str, str]":
+        return self.run_command(sys.executable, PYTHON / f"bin/warcdx-{name}", "--program", os.path.abspath(PROGRAM), *words)
+
+
+class Signals(unittest.TestCase):
+    def test_a_signal_while_arguments_are_read(self) -> None:
+        """Whenever it comes, what it raises is raised."""
+        parser = Parser("command")
+        parser.add_output("FILE", "a file")
+        parser.add_argument("files", nargs="*")
+        calls, words = 0, ["a", "-o", "b", "c"]
+
+        def trace(frame: FrameType, event: str, argument: Any) -> Any:
+            nonlocal calls
+            calls -= 1
+            if not calls:
+                raise Ended(signal.SIGTERM)
+            return trace
+
+        for number in range(1, 5000):
+            calls, usual = number, sys.gettrace()
+            sys.settrace(trace)
+            try:
+                given = parser.parse(words)
+            except Ended:
+                continue
+            finally:
+                sys.settrace(usual)
+            self.assertEqual((["a", "c"], "b"), (given.files, given.output))
+            self.assertGreater(number, 100)
+            return
+        self.fail("it doesn't end")
+
+
+class OldPython(Runs):
+    def put_python(self, name: str) -> None:
+        path = self.put('#!/bin/sh\necho "$0" "$@"\n', name)
+        path.chmod(0o755)
+
+    def run_as(self, version: "tuple[int, int]", script: pathlib.Path) -> "tuple[int, str, str]":
+        return self.run_command(sys.executable, "-c", AS_PYTHON % version, script, "--help", PATH=str(self.folder))
+
+    def test_a_sentence_says_which_version_is_needed(self) -> None:
+        for script, version, wanted in ((COMMANDS[0], (3, 8), "3.9"), (GATEWAY, (3, 8), "3.11"), (GATEWAY, (3, 10), "3.11")):
+            said = f"{script.name}: it needs Python {wanted} or later, and {sys.executable} is Python {version[0]}.{version[1]}\n"
+            self.put_python("python3.8")
+            self.assertEqual((3, "", said), self.run_as(version, script))
+
+    @unittest.skipIf(sys.prefix != sys.base_prefix, "a virtual environment has one Python alone")
+    def test_a_newer_one_of_the_path_runs_the_command(self) -> None:
+        for name in ("python3.10", "python3.12", "python3.13"):
+            self.put_python(name)
+        for script, version, wanted in (
+            (COMMANDS[0], (3, 8), "python3.10"),
+            (GATEWAY, (3, 8), "python3.12"),
+            (GATEWAY, (3, 10), "python3.12"),
+        ):
+            self.assertEqual((0, f"{self.folder}/{wanted} {script} --help\n", ""), self.run_as(version, script))
+
+
+if __name__ == "__main__":
+    unittest.main()
