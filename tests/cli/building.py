@@ -66,7 +66,7 @@ class Checkout:
         self.rt = work / "bin/rt"
         for crate in (ROOT / "crates").iterdir():
             shutil.copytree(crate, self.folder / "crates" / crate.name, ignore=shutil.ignore_patterns("out"))
-        for name in ("crates.txt", "warcdx", "warcdx-gz", "tools/build.py", "tools/built_program.sh", "tests/run", "tests/program.py"):
+        for name in ("crates.txt", "warcdx", "warcdx-gz", "tools/build.py", "tools/built_program.sh", "tests/run", "tests/program.py", "tests/refusals.py"):
             (self.folder / name).parent.mkdir(exist_ok=True)
             shutil.copy(ROOT / name, self.folder / name)
         self.rt.parent.mkdir()

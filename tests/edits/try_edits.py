@@ -6,13 +6,12 @@ usage: try_edits.py [CRATE..]
 They are beside this script, in a folder for each crate. Without CRATE all are tried. tools/build.py first proves the crates below these. Then
 `rt must-fail` tries the edits on copies of the crate.
 
-An edit may have a line `clause: TEXT`. What the prover says of the first clause that it can't prove then has to contain TEXT.
+An edit has a line `clause: WORDS`. It counts only if the first goal that the prover can't prove is of this clause.
 
-Prints a line for each edit, and the counts. The exit status is 0, or 1 if an edit isn't refused, or at another clause, or if a crate below isn't proved.
-Needs the kit's rt.
+Prints a line for each edit, and the counts. The exit status is 0, or 1 if an edit isn't refused, or at another clause, or names none, or if a crate below
+isn't proved. Needs the kit's rt.
 """
 import pathlib
-import re
 import subprocess
 import sys
 
@@ -22,28 +21,22 @@ sys.path[:0] = [str(HERE.parent), str(TOOLS)]
 
 from build import Crate, direct_dependencies, room_of, with_crates_below
 from program import Report, need, parser_of
-
-EDIT = re.compile(r"rt: must-fail (\S+): (.*)")
-CLAUSE = re.compile(r"^clause: (.*)\n", re.MULTILINE)
+from refusals import CLAUSE, faults_of
 
 
 def try_edits(crate: Crate, report: Report) -> None:
-    texts = {path.name: path.read_text() for path in sorted((HERE / crate.name).glob("*.edit"))}
+    texts = {f"{crate.name}/{path.name}": path.read_text() for path in sorted((HERE / crate.name).glob("*.edit"))}
     with room_of(crate) as room:
         folder = room / "crates" / crate.name / "must-fail"
         folder.mkdir()
         for name, text in texts.items():
-            (folder / name).write_text(CLAUSE.sub("", text))
+            (folder / pathlib.Path(name).name).write_text(CLAUSE.sub("", text))
         done = subprocess.run(("rt", "must-fail", crate.name), cwd=room, stdout=subprocess.PIPE, stderr=subprocess.STDOUT, text=True, errors="replace")
-    found = dict(EDIT.findall(done.stdout))
-    for edit, text in texts.items():
-        name = f"{crate.name}/{edit}"
-        said = found.get(name, done.stdout[-500:])
-        clause = CLAUSE.search(text)
-        if said.startswith("refused") and (clause is None or clause[1] in said):
-            report.add_ok(name)
+    for name, fault in faults_of(texts, done.stdout).items():
+        if fault:
+            report.add_difference(name, fault)
         else:
-            report.add_difference(name, said)
+            report.add_ok(name)
 
 
 def prove_below(crates: list[Crate]) -> bool:
