@@ -6,3 +6,4 @@ mod ShelfOutcomes
 mod ShelfQueries
 mod ShelfReports
 mod ShelfRuns
+mod ShelfWrites

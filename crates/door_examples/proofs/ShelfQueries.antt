@@ -154,28 +154,28 @@ module _ (before after : List ℕ) where
   counted one (Ok n) checked (inr failed) = grind arith
   counted one (Err f) checked written = grind arith
 
-  checked_one : HasOneList → ChecksOne shelf.index_of shelf.IndexFailed (Some before) index_name outcomes.Done (Some after)
+  checked_one : (failed : Type 0) → HasOneList → ChecksOne (shelf failed).index_of (shelf failed).IndexFailed (Some before) index_name outcomes.Done (Some after)
       → after ≡ before ++ codes "a.cdxj 1\n"
-  checked_one one (inl c) = counted one c.answer (c.checked a_line refl) c.written
-  checked_one one (inr unopened) = grind arith
+  checked_one failed one (inl c) = counted one c.answer (c.checked a_line refl) c.written
+  checked_one failed one (inr unopened) = grind arith
 
-module _ (before after : List ℕ) (unchanged : Type 0) where
-  pub checks : HasOneList → Performs shelf (Some before) (Some after) unchanged outcomes.Done (ToCheck (index_name ∷ []))
+module _ (failed : Type 0) (before after : List ℕ) (unchanged : Type 0) where
+  pub checks : HasOneList → Performs (shelf failed) (Some before) (Some after) unchanged outcomes.Done (ToCheck (index_name ∷ []))
       → after ≡ before ++ codes "a.cdxj 1\n"
   unfolding Performs
   checks one (ended, next, step, rest) =
       let d = one_done ended next (Some after) rest in
-      checked_one before after one (subst (λ s. ChecksOne shelf.index_of shelf.IndexFailed (Some before) index_name
+      checked_one before after failed one (subst (λ s. ChecksOne (shelf failed).index_of (shelf failed).IndexFailed (Some before) index_name
       outcomes.Done s) (sym d.1)
-      (subst (λ o. ChecksOne shelf.index_of shelf.IndexFailed (Some before) index_name o next) d.0 step))
+      (subst (λ o. ChecksOne (shelf failed).index_of (shelf failed).IndexFailed (Some before) index_name o next) d.0 step))
 
-  pub merges : Performs shelf (Some before) (Some after) unchanged outcomes.Done (ToMerge (index_name ∷ index_name ∷ []))
+  pub merges : Performs (shelf failed) (Some before) (Some after) unchanged outcomes.Done (ToMerge (index_name ∷ index_name ∷ []))
       → after ≡ before ++ a_line
   unfolding Performs
   merges (inl m) = merged before after m.answer m.outcome_is m.merged
   merges (inr unopened) = grind arith
 
-  pub queries : Performs shelf (Some before) (Some after) unchanged outcomes.Done (ToQuery orgs_text (index_name ∷ []))
+  pub queries : Performs (shelf failed) (Some before) (Some after) unchanged outcomes.Done (ToQuery orgs_text (index_name ∷ []))
       → after ≡ before ++ codes "org,a)/ 0\n"
   unfolding Performs
   queries (inl (q, meaning, inl a)) =
@@ -186,7 +186,7 @@ module _ (before after : List ℕ) (unchanged : Type 0) where
   queries (inr refused) = grind arith
 
   pub paginates : PagesAreOne
-      → Performs shelf (Some before) (Some after) unchanged outcomes.Done (ToPages (1 ∷ []) orgs_text (index_name ∷ []))
+      → Performs (shelf failed) (Some before) (Some after) unchanged outcomes.Done (ToPages (1 ∷ []) orgs_text (index_name ∷ []))
       → after ≡ before ++ codes "org,a)/ 0\n"
   unfolding Performs
   paginates one (inl (q, meaning, inl a)) =
@@ -196,13 +196,13 @@ module _ (before after : List ℕ) (unchanged : Type 0) where
   paginates one (inl (q, meaning, inr unopened)) = grind arith
   paginates one (inr refused) = grind arith
 
-  pub serves : RepliesAreOne → Performs shelf (Some before) (Some after) unchanged outcomes.Done (ToServe (index_name ∷ []))
+  pub serves : RepliesAreOne → Performs (shelf failed) (Some before) (Some after) unchanged outcomes.Done (ToServe (index_name ∷ []))
       → after ≡ before ++ codes "org,a)/\n.\n"
   unfolding Performs
   serves one (input, is, inl a) = replied before after one a.answer a.outcome_is (rw is at a.conversation)
   serves one (input, is, inr unopened) = grind arith
 
-  pub scans : ScanIsOne → Performs shelf (Some before) (Some after) unchanged outcomes.Done
+  pub scans : ScanIsOne → Performs (shelf failed) (Some before) (Some after) unchanged outcomes.Done
       (ToScan usual_types None (1 ∷ []) orgs_text (archive_name ∷ [])) → after ≡ before ++ codes "org,a)/ 0\n"
   unfolding Performs
   scans one (inl (q, meaning, inl (told, are, s))) = scanned before after one s.answer s.outcome_is (only told are s.scanned)

@@ -94,7 +94,7 @@ verified one whole start after (Ok v, is, (items, end, read, tally, wrote)) =
     wrote ∙ ap (λ t. start ++ t) (said_all verification one whole items end read ∙ verify_text)
 verified one whole start after (Err f, is, verifies) = grind arith
 
-module _ (report : ArchiveReport) (text before after : List ℕ)
+module _ (failed : Type 0) (report : ArchiveReport) (text before after : List ℕ)
     (whole : (start : List ℕ) → WritesReport report told_archive outcomes.Done (Some start) (Some after)
     → after ≡ start ++ text) where
   below : (headed : Option (List ℕ)) → Appends (Some before) headed []
@@ -102,7 +102,7 @@ module _ (report : ArchiveReport) (text before after : List ℕ)
   below None top written = grind arith
   below (Some start) top written = whole start written ∙ ap (λ s. s ++ text) (top ∙ append-nil before)
 
-  on_one : ReportsOnOne shelf.TellsArchive shelf.ArchiveFailed report 1 (Some before) archive_name outcomes.Done (Some after)
+  on_one : ReportsOnOne (shelf failed).TellsArchive (shelf failed).ArchiveFailed report 1 (Some before) archive_name outcomes.Done (Some after)
       → after ≡ before ++ text
   on_one (inl written) = beneath (over_told _ written)
     where
@@ -112,13 +112,13 @@ module _ (report : ArchiveReport) (text before after : List ℕ)
       beneath (inr failed) = grind arith
   on_one (inr unopened) = grind arith
 
-  reported : ReportsOn shelf.TellsArchive shelf.ArchiveFailed report (archive_name ∷ []) (Some before) (Some after)
+  reported : ReportsOn (shelf failed).TellsArchive (shelf failed).ArchiveFailed report (archive_name ∷ []) (Some before) (Some after)
       outcomes.Done → after ≡ before ++ text
   reported (ended, next, step, rest) =
       let d = one_done ended next (Some after) rest in
-      on_one (subst (λ s. ReportsOnOne shelf.TellsArchive shelf.ArchiveFailed report 1 (Some before) archive_name
+      on_one (subst (λ s. ReportsOnOne (shelf failed).TellsArchive (shelf failed).ArchiveFailed report 1 (Some before) archive_name
       outcomes.Done s) (sym d.1)
-      (subst (λ o. ReportsOnOne shelf.TellsArchive shelf.ArchiveFailed report 1 (Some before) archive_name o next) d.0 step))
+      (subst (λ o. ReportsOnOne (shelf failed).TellsArchive (shelf failed).ArchiveFailed report 1 (Some before) archive_name o next) d.0 step))
 
 -- ---- the record at an offset
 
@@ -131,20 +131,20 @@ fetched one before after (Ok n) is (text, count, wrote, stands) = wrote
     ∙ ap (λ t. before ++ t) (same_text text a_archive (one HEAD_LIMIT 0 a_archive (Ok text) (Ok a_archive) stands a_stands))
 fetched one before after (Err f) is fetches = grind arith
 
-module _ (before after : List ℕ) (unchanged : Type 0) where
+module _ (failed : Type 0) (before after : List ℕ) (unchanged : Type 0) where
   pub lists : HasOneReading → PlainIsWhole
-      → Performs shelf (Some before) (Some after) unchanged outcomes.Done (ToList (archive_name ∷ []))
+      → Performs (shelf failed) (Some before) (Some after) unchanged outcomes.Done (ToList (archive_name ∷ []))
       → after ≡ before ++ codes "0 201 resource\n"
   unfolding Performs
-  lists one whole p = reported reports.Listing _ before after (λ start. listed one whole start after) p
+  lists one whole p = reported failed reports.Listing _ before after (λ start. listed one whole start after) p
 
   pub verifies : HasOneReading → PlainIsWhole
-      → Performs shelf (Some before) (Some after) unchanged outcomes.Done (ToVerify (archive_name ∷ []))
+      → Performs (shelf failed) (Some before) (Some after) unchanged outcomes.Done (ToVerify (archive_name ∷ []))
       → after ≡ before ++ codes "0 absent\n"
   unfolding Performs
-  verifies one whole p = reported reports.Verdicts _ before after (λ start. verified one whole start after) p
+  verifies one whole p = reported failed reports.Verdicts _ before after (λ start. verified one whole start after) p
 
-  pub gets : OneStands → Performs shelf (Some before) (Some after) unchanged outcomes.Done (ToGet None 0 archive_name)
+  pub gets : OneStands → Performs (shelf failed) (Some before) (Some after) unchanged outcomes.Done (ToGet None 0 archive_name)
       → after ≡ before ++ a_archive
   unfolding Performs
   gets one (inl written) =
@@ -154,10 +154,10 @@ module _ (before after : List ℕ) (unchanged : Type 0) where
 
 -- ---- the index
 
-added : OneIndexed → (held : Held)
-    → AddsOne shelf.TellsArchive shelf.ArchiveFailed None (nothing_of usual_types) archive_name outcomes.Done held
+added : (failed : Type 0) → OneIndexed → (held : Held)
+    → AddsOne (shelf failed).TellsArchive (shelf failed).ArchiveFailed None (nothing_of usual_types) archive_name outcomes.Done held
     → held.captures ≡ a_entry ∷ []
-added one held (inl told) = go a.answer a.outcome_is a.adds
+added failed one held (inl told) = go a.answer a.outcome_is a.adds
   where
     a : AddsArchive archive_name told_archive (nothing_of usual_types) held outcomes.Done
     a = over_told (λ told. AddsArchive archive_name told (nothing_of usual_types) held outcomes.Done) told
@@ -167,7 +167,7 @@ added one held (inl told) = go a.answer a.outcome_is a.adds
         (plain HEAD_LIMIT) archive_name (Some a_archive) (nothing_of usual_types) held answer → held.captures ≡ a_entry ∷ []
     go (Ok n) is adds = grind (arith, one _ _ HEAD_LIMIT Plain _ _ _ _ adds.2.2 pages_are_accepted.first)
     go (Err f) is adds = grind arith
-added one held (inr unopened) = grind arith
+added failed one held (inr unopened) = grind arith
 
 indexed : (before after : List ℕ) (held : Held) (outcome : Outcome) → held.captures ≡ a_entry ∷ []
     → WritesIndex held outcome (Some before) (Some after) outcomes.Done → after ≡ before ++ a_line
@@ -175,14 +175,14 @@ indexed before after held outcome are (Ok n, is, fault, text) = text ∙ ap (λ 
     ∙ ap (λ t. before ++ t) line_text
 indexed before after held outcome are (Err f, is, fault, text) = grind arith
 
-pub indexes : OneIndexed → (before after : List ℕ) (unchanged : Type 0)
-    → Performs shelf (Some before) (Some after) unchanged outcomes.Done (ToIndex usual_types None (archive_name ∷ []))
+pub indexes : (failed : Type 0) → OneIndexed → (before after : List ℕ) (unchanged : Type 0)
+    → Performs (shelf failed) (Some before) (Some after) unchanged outcomes.Done (ToIndex usual_types None (archive_name ∷ []))
     → after ≡ before ++ a_line
 unfolding Performs
-indexes one before after unchanged (held, reached, (ended, next, step, rest), write) =
+indexes failed one before after unchanged (held, reached, (ended, next, step, rest), write) =
     let w = added_done reached unchanged held (Some before) (Some after) write in
     let d = one_done ended next held (subst (λ r. MatchBool (ends_command ended) ((r ≡ ended) × (held ≡ next))
     ((r ≡ Rattle.outcomes.specs.Outcome.worse_of outcomes.Done ended) × (held ≡ next))) w.0 rest) in
-    indexed before after held reached (added one held (subst (λ s. AddsOne shelf.TellsArchive shelf.ArchiveFailed
+    indexed before after held reached (added failed one held (subst (λ s. AddsOne (shelf failed).TellsArchive (shelf failed).ArchiveFailed
     None (nothing_of usual_types) archive_name outcomes.Done s) (sym d.1)
-    (subst (λ o. AddsOne shelf.TellsArchive shelf.ArchiveFailed None (nothing_of usual_types) archive_name o next) d.0 step))) w.1
+    (subst (λ o. AddsOne (shelf failed).TellsArchive (shelf failed).ArchiveFailed None (nothing_of usual_types) archive_name o next) d.0 step))) w.1

@@ -26,23 +26,27 @@ query_is = refl
 unknown_is : asked (codes "lst" ∷ archive_name ∷ []) ≡ Err Usage
 unknown_is = refl
 
+-- all names are those of these bytes
+abbrev all_names : List ℕ → List ℕ → List ℕ
+all_names bytes name = bytes
+
 abbrev held : Gather → Option (List ℕ)
 held g = Some (gathered g)
 
 module _ (archive index input : List ℕ) (a : archive ≡ a_archive) (i : index ≡ a_line) (n : input ≡ query_line)
     (old new : Gather) where
   abbrev Ends : Result Meaning Refusal → Type 0
-  Ends wanted = EndsWith0 held held gather_failures (files archive index input) wanted old new
+  Ends wanted = EndsWith0 held held gather_failures (files ⊥ (λ name. archive) (λ name. index) input) wanted old new
 
   -- a task that writes a text wherever it begins has written it, if it begins at the output as it is
   wrote : (task : Meaning) (text : List ℕ)
       → ((begun : Gather) → Begins held held gather_failures task old begun → begun ≡ old)
       → ((before after : List ℕ) (unchanged : Type 0)
-      → Performs shelf (Some before) (Some after) unchanged outcomes.Done task → after ≡ before ++ text)
+      → Performs (shelf ⊥) (Some before) (Some after) unchanged outcomes.Done task → after ≡ before ++ text)
       → Ends (Ok task) → gathered new ≡ gathered old ++ text
   wrote task text begins writes d = d.kept ∙ writes (gathered d.begun) (gathered d.ended) (d.ended ≡ d.begun)
-      (on_shelf archive index input (gathered d.begun) (gathered d.ended) (d.ended ≡ d.begun) outcomes.Done task task
-      a i n refl refl d.performs) ∙ ap (λ xs. xs ++ text) (ap gathered (begins d.begun d.begins))
+      (on_shelf ⊥ _ _ input (gathered d.begun) (gathered d.ended) (d.ended ≡ d.begun) outcomes.Done task task
+      (ap all_names a) (ap all_names i) n refl refl d.performs) ∙ ap (λ xs. xs ++ text) (ap gathered (begins d.begun d.begins))
 
   module _ (words : List (List ℕ)) (ends : Ends (asked words)) where
     by_words : (those : List (List ℕ)) (wanted : Result Meaning Refusal) → words ≡ those → asked those ≡ wanted
@@ -51,17 +55,17 @@ module _ (archive index input : List ℕ) (a : archive ≡ a_archive) (i : index
 
     pub list_runs : HasOneReading → PlainIsWhole → words ≡ codes "list" ∷ archive_name ∷ []
         → gathered new ≡ gathered old ++ codes "0 201 resource\n"
-    list_runs one whole same = wrote _ _ (λ begun is. is) (λ before after unchanged. lists before after unchanged one whole)
+    list_runs one whole same = wrote _ _ (λ begun is. is) (λ before after unchanged. lists ⊥ before after unchanged one whole)
         (by_words _ _ same list_is)
 
     pub verify_runs : HasOneReading → PlainIsWhole → words ≡ codes "verify" ∷ archive_name ∷ []
         → gathered new ≡ gathered old ++ codes "0 absent\n"
-    verify_runs one whole same = wrote _ _ (λ begun is. is) (λ before after unchanged. verifies before after unchanged one whole)
+    verify_runs one whole same = wrote _ _ (λ begun is. is) (λ before after unchanged. verifies ⊥ before after unchanged one whole)
         (by_words _ _ same verify_is)
 
     pub query_runs : words ≡ codes "query" ∷ orgs_text ∷ index_name ∷ []
         → gathered new ≡ gathered old ++ codes "org,a)/ 0\n"
-    query_runs same = wrote _ _ (λ begun is. is) queries (by_words _ _ same query_is)
+    query_runs same = wrote _ _ (λ begun is. is) (queries ⊥) (by_words _ _ same query_is)
 
     pub unknown_runs : words ≡ codes "lst" ∷ archive_name ∷ [] → ⊥
     unknown_runs same = by_words _ _ same unknown_is

@@ -24,13 +24,13 @@ query_line = codes "key=org,a)/&fl=urlkey\n"
 abbrev pub told_archive : ToldArchive
 told_archive = plain_of a_archive
 
--- One archive has all names of archives, and one index all names of indexes. Nothing fails to be opened.
-abbrev pub shelf : Openings
-shelf = record {
+-- One archive has all names of archives, and one index all names of indexes. This is so where one isn't opened.
+abbrev pub shelf : Type 0 → Openings
+shelf failed = record {
   TellsArchive = λ name told. told ≡ told_archive;
   index_of = λ name. Some a_line;
-  ArchiveFailed = λ name. ⊥;
-  IndexFailed = λ name. ⊥;
+  ArchiveFailed = λ name. failed;
+  IndexFailed = λ name. failed;
   TellsInput = λ told. told ≡ Some query_line;
 }
 

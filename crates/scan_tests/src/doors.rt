@@ -3,6 +3,7 @@ use capture_core::{CaptureFault, Entry};
 use cdxj_core::{KeyFault, PlaceFault};
 use command_line::Task;
 use door_examples::captures::first_capture;
+use door_examples::disk::{DiskFiles, MemoryDisk, perform_on_disk};
 use door_examples::indexes::write_index;
 use door_examples::lines::{key, line, resume_key};
 use door_examples::queries::{PageFault, page, page_of_two};
@@ -213,6 +214,31 @@ fn tasks_on_indexes_write_their_texts(rt: HostRuntime) -> Result<(), Fail> {
     assert!(rt; writes(&rt, &check, b"a.cdxj 1\n"));
     assert!(rt; writes(&rt, &merge, INDEX));
     assert!(rt; writes(&rt, &serve, b"org,a)/\n.\n"));
+    Ok(())
+}
+
+/// Performs the task over the same bytes as files that are read at a position.
+fn writes_from_disk(rt: &HostRuntime, task: &Task, text: &[u8]) -> bool {
+    let console = Console::new(rt, Program::Warcdx);
+    let files = DiskFiles {
+        alloc: rt.alloc(),
+        archives: &MemoryDisk { bytes: ARCHIVE },
+        indexes: &MemoryDisk { bytes: INDEX },
+        input: b"key=org,a)/&fl=urlkey\n",
+    };
+    let mut out = Gather::new(rt.alloc());
+    let outcome = perform_on_disk(&console, &files, task, &mut out);
+    matches!(outcome, Outcome::Done) && out.bytes() == text
+}
+
+#[test]
+fn tasks_on_a_disk_write_their_texts(rt: HostRuntime) -> Result<(), Fail> {
+    let verify = Task::Verify(one_name(rt.alloc(), "a.warc")?);
+    let check = Task::Check(one_name(rt.alloc(), "a.cdxj")?);
+    let serve = Task::Serve(one_name(rt.alloc(), "a.cdxj")?);
+    assert!(rt; writes_from_disk(&rt, &verify, b"0 absent\n"));
+    assert!(rt; writes_from_disk(&rt, &check, b"a.cdxj 1\n"));
+    assert!(rt; writes_from_disk(&rt, &serve, b"org,a)/\n.\n"));
     Ok(())
 }
 

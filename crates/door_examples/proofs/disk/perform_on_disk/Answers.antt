@@ -1,0 +1,15 @@
+use Rattle.door_examples.proofs.ShelfWrites.{writes}
+use Rattle.door_examples.proofs.disk.perform_on_disk.Goals as goal
+
+pub returns : goal.returns
+returns g c archives indexes input is before after begins ends =
+    writes (record {
+      reading = c.one_reading.ensures;
+      records = c.plain_archive_is_its_records.ensures.whole;
+      stands = c.one_thing_stands_at_an_offset.ensures.one;
+      captures = c.archive_has_one_list_of_captures.ensures.whole;
+      members = c.index_has_one_list_of_members.ensures;
+      pages = c.pages_write_one_text.ensures;
+      replies = c.replies_over_indexes_are_one.ensures;
+      scan = c.scan_writes_one_text.ensures;
+    }) _ _ _ _ before after _ _ _ archives indexes input is (rw (begins, ends) at c.perform.ensures.performs)
