@@ -140,7 +140,8 @@ impl<'q> PageWriter<'q> {
         ensures wrote { IfOk result (λ writer.
             Wrote writer writer [] (O.written out.old) (O.written out.new)) }
         ensures begins { MatchResult result (IsWriterOf query.now limit sizes.now) (λ _.
-            AppendsPrefix (O.written out.old) (O.written out.new) (page_start (form_of query.now))) }
+            AppendsPrefix (O.written out.old) (O.written out.new)
+            (page_start (form_of query.now))) }
         ensures failures { CountsWriteFault result (O.failures out.old) (O.failures out.new) }
     {
         let selection = Selection::begin(alloc, query)?;

@@ -72,8 +72,8 @@ pub fn index_archives<A: Archive>(
     ensures names { map (λ n. string_bytes n.name) inputs.new
         ≡ map (λ n. string_bytes n.name) inputs.old }
     ensures indexes { IfOk result (λ indexes. HaveIndexes (includes types)
-        (map (λ n. string_bytes n.name) inputs.old) (map (λ n. told_of (A.state n.archive)) inputs.old)
-        (map gathered indexes.items)) }
+        (map (λ n. string_bytes n.name) inputs.old)
+        (map (λ n. told_of (A.state n.archive)) inputs.old) (map gathered indexes.items)) }
     ensures number { IfOk result (λ indexes. length indexes.items ≡ length inputs.old) }
     ensures refused { IfErr result
         (IsArchiveFault (includes types) (map (λ n. string_bytes n.name) inputs.old)

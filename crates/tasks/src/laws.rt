@@ -10,7 +10,8 @@ use crate::opening::Opener;
 /// them are told.
 #[tactic(auto, using(crate::proofs::UntoldLemmas::performs_untold))]
 pub fn promises_hold_untold<F: Opener, O>(files: &F)
-    ensures { (task : Meaning) → (outcome : Outcome) → (written : O → Option (List ℕ)) → (old new : O)
+    ensures { (task : Meaning) → (outcome : Outcome) → (written : O → Option (List ℕ))
+        → (old new : O)
         → Performs (openings F.tells_archive F.index_bytes F.archive_failed F.index_failed
         F.tells_input files.now) (written old) (written new) (new ≡ old) outcome task
         → Performs (untold (openings F.tells_archive F.index_bytes F.archive_failed F.index_failed

@@ -119,8 +119,8 @@ fn scan_opened<R: Runtime + AllocGlobal, A: Archive, O: Output>(
 ) -> Outcome
     requires { AllByRecursion (λ a. IsUnread (A.state a.archive)) archives.old }
     ensures scans { ScansArchives (includes types) (archive_names archives.old)
-        (map (λ a. told_of (A.state a.archive)) archives.old) sizes.now query.now (O.written out.old)
-        (O.written out.new) result }
+        (map (λ a. told_of (A.state a.archive)) archives.old) sizes.now query.now
+        (O.written out.old) (O.written out.new) result }
     ensures writes { CountsWrites result (O.failures out.old) (O.failures out.new) }
 {
     let answer = scan(console.alloc(), archives, types, sizes, query, out);

@@ -41,7 +41,8 @@ pub fn give_block<I: Input>(
     ensures bytes { MatchResult result
         (λ n. Consumes (prepend_known buffer.old (I.remaining input.old))
         (prepend_known buffer.new (I.remaining input.new)) (take n piece.new))
-        (λ c. IsPossibleFault (after_block left) c (prepend_known buffer.old (I.remaining input.old))) }
+        (λ c. IsPossibleFault (after_block left) c
+        (prepend_known buffer.old (I.remaining input.old))) }
     ensures failures { CountsRead result (I.failures input.old) (I.failures input.new) }
 {
     let most = left.min(piece.len() as u64) as usize;

@@ -123,7 +123,8 @@ impl Reader {
         ensures state { MatchResult result
             (λ _. StandsAt self.new offset Phase.Between) (FailedBy self.new offset) }
         ensures cause { IfErr result (λ f. f.cause ≡ Cause.Read) }
-        ensures reads { CountsRead (causes_of result) (I.failures input.old) (I.failures input.new) }
+        ensures reads { CountsRead (causes_of result) (I.failures input.old)
+            (I.failures input.new) }
     {
         let count = offset - self.offset;
         self.offset = offset;
