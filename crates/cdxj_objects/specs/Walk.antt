@@ -1,5 +1,5 @@
 -- A member that a walk over an object passes: its name, and a text or a whole number.
-use Rattle.std.specs.Prelude.{◌≡◌, ◌⊎◌, ℕ, ◌+◌, ◌++◌, codes, ◌<◌, ◌≤◌, ◌^◌, Bool, true, List, ◌∷◌, decimal, drop, length, if◌then◌else◌, ◌==◌, ◌||◌, bytes_eq, false, get_or, not, take, ◌&&◌}
+use Rattle.std.specs.Prelude.{◌≡◌, ◌⊎◌, ℕ, ◌+◌, ◌++◌, codes, ◌<◌, ◌≤◌, ◌^◌, Bool, true, List, ◌∷◌, decimal, drop, length, if◌then◌else◌, ◌==◌, ◌||◌, bytes_eq, false, get_or, not, ◌&&◌}
 use Rattle.json.specs.Token.{Token}
 use Rattle.json.specs.Text.{content, plain}
 use Rattle.json.specs.Lex.{lex, between, in_string, token, colon, operator_lexeme}
