@@ -6,7 +6,7 @@ ghost use Rattle.cdxj_core.specs.declared.limit.TheConstants.{LINE_LIMIT};
 use crate::body::{body_of, has_no_feed};
 use crate::fault::LineFault;
 use crate::limit::LINE_LIMIT;
-use crate::line_ref::{LineRef, Read};
+use crate::line_ref::{Begun, LineRef, Read};
 use crate::spans::Spans;
 use cdxj_objects::{FoundMembers, spelled};
 use cdxj_places::{HasPlace, Pair, Place, cut_first, is_key, is_stamp};
@@ -54,12 +54,12 @@ fn new_scratch(alloc: Global) -> Result<Box<Scratch>, AllocError> {
 }
 
 impl Line {
-    ghost use Rattle.std.specs.Prelude.{true, IfOk, IfSome, OnErr, MatchResult, Ok, Err, Some};
+    ghost use Rattle.std.specs.Prelude.{true, IfErr, IfOk, IfSome, OnErr, MatchResult, Ok, Err, Some};
     ghost use Rattle.std.specs.List.{list_all};
     ghost use Rattle.cdxj_objects.specs.Plain.{is_printable_ascii};
     ghost use Rattle.cdxj_core.specs.Lines.{body_of};
     ghost use Rattle.cdxj_core.specs.Members.{member_place, line_entry, IsLineReading};
-    ghost use Rattle.cdxj_core.specs.ReadLine.{member_of};
+    ghost use Rattle.cdxj_core.specs.ReadLine.{IsBegun, IsReadOf};
     ghost use Rattle.cdxj_places.specs.PlaceViews.{place_view};
 
     /// Reads a line, with or without its line feed: a key, a space, a stamp, a space and a JSON
@@ -197,15 +197,37 @@ impl Line {
         read: Option<Read<'_>>,
         scratch: &mut Option<Box<Scratch>>,
     ) -> Result<(), LineFault>
-        requires { IfSome read (λ read. line_entry LINE_LIMIT line.now ≡ Some (member_of read)) }
+        requires { IfSome read (IsReadOf LINE_LIMIT (body_of line.now)) }
         ensures { MatchResult result (λ _. IsLineReading LINE_LIMIT line.now (Ok self.new))
             (λ fault. IsLineReading LINE_LIMIT line.now (Err fault) × (self.new ≡ self.old)) }
     {
         match read {
-            Some(read) => {
-                self.keep_read(read)?;
+            Some(Read::Written(read)) => self.keep(&read),
+            Some(Read::Begun(begun)) => self.refill_begun(line, begun, scratch),
+            None => {
+                *self = Line::read_json(self.alloc, line, scratch)?;
                 Ok(())
             }
+        }
+    }
+
+    /// The same for a line in any other spelling than that of a written line. It is apart, so that
+    /// written lines keep their values in registers.
+    #[cold]
+    #[inline(never)]
+    #[tactic(auto, using(crate::proofs::MemberLemmas::entry_is_short))]
+    fn refill_begun(
+        &mut self,
+        line: &[u8],
+        begun: Begun<'_>,
+        scratch: &mut Option<Box<Scratch>>,
+    ) -> Result<(), LineFault>
+        requires { IsBegun LINE_LIMIT (body_of line.now) begun }
+        ensures { MatchResult result (λ _. IsLineReading LINE_LIMIT line.now (Ok self.new))
+            (λ fault. IsLineReading LINE_LIMIT line.now (Err fault) × (self.new ≡ self.old)) }
+    {
+        match LineRef::walked(begun) {
+            Some(read) => self.keep(&read),
             None => {
                 *self = Line::read_json(self.alloc, line, scratch)?;
                 Ok(())
@@ -214,30 +236,10 @@ impl Line {
     }
 
     #[inline(always)]
-    fn keep_read(&mut self, read: Read<'_>) -> Result<(), AllocError>
-        ensures ok { OnOk result (self.new ≡ member_of read.entry) }
-        ensures err { OnErr result (self.new ≡ self.old) }
-    {
-        match read {
-            Read::Written(line) => self.keep(&line),
-            Read::Walked(line) => self.keep_walked(line),
-        }
-    }
-
-    /// The same apart, so that lines as they are written keep their values in registers.
-    #[cold]
-    #[inline(never)]
-    fn keep_walked(&mut self, line: LineRef<'_>) -> Result<(), AllocError>
-        ensures ok { OnOk result (self.new ≡ line.entry) }
-        ensures err { OnErr result (self.new ≡ self.old) }
-    {
-        self.keep(&line)
-    }
-
-    #[inline(always)]
-    fn keep(&mut self, line: &LineRef<'_>) -> Result<(), AllocError>
+    fn keep(&mut self, line: &LineRef<'_>) -> Result<(), LineFault>
         ensures ok { OnOk result (self.new ≡ line.now) }
         ensures err { OnErr result (self.new ≡ self.old) }
+        ensures fault { IfErr result (λ fault. fault ≡ LineFault.Memory) }
     {
         self.text
             .reserve(line.text.len().saturating_sub(self.text.len()))?;

@@ -8,7 +8,8 @@ use crate::front_pair::{FrontPair, front_pair};
 use crate::limit::LINE_LIMIT;
 use crate::spans::{Spans, TO_OBJECT, TO_STAMP, TO_STAMP_END};
 use cdxj_objects::{
-    Members, Placed, PlacedMembers, or_missing, place_of_either, placed_members, texts_at,
+    Members, Placed, PlacedMembers, PlainFronts, or_missing, place_of_either, placed_members,
+    texts_at, walked_members,
 };
 use cdxj_places::{HasPlace, Pair, Place};
 use std::cmp::Ordering;
@@ -21,11 +22,19 @@ pub struct LineRef<'a> {
     pub(crate) spans: Spans,
 }
 
-/// A line that was read where it stands: as it is written, or in any other spelling.
+/// The body of a line in any other spelling than that of a written line, and what was read of it.
+#[derive(Drop)]
+pub(crate) struct Begun<'a> {
+    text: &'a str,
+    pair: FrontPair,
+    fronts: Option<PlainFronts>,
+}
+
+/// A line that was read where it stands, or its beginning.
 #[derive(Drop)]
 pub(crate) enum Read<'a> {
     Written(LineRef<'a>),
-    Walked(LineRef<'a>),
+    Begun(Begun<'a>),
 }
 
 impl<'a> Model for LineRef<'a> {
@@ -47,7 +56,7 @@ impl<'a> LineRef<'a> {
     ghost use Rattle.std.specs.List.{list_all};
     ghost use Rattle.cdxj_objects.specs.Plain.{is_printable, is_printable_ascii};
     ghost use Rattle.cdxj_core.specs.KeptLine.{IsEntryOf, IsFrontPair};
-    ghost use Rattle.cdxj_core.specs.ReadLine.{member_of};
+    ghost use Rattle.cdxj_core.specs.ReadLine.{IsBegun, IsReadOf};
     ghost use Rattle.json.specs.Run.{is_plain};
     ghost use Rattle.cdxj_places.specs.PlaceViews.{place_view};
     ghost use Rattle.cdxj_core.specs.declared.field.Field.{Field};
@@ -65,14 +74,14 @@ impl<'a> LineRef<'a> {
     {
         match LineRef::of_line(line)? {
             Read::Written(found) => Some(found),
-            Read::Walked(found) => Some(found),
+            Read::Begun(begun) => LineRef::walked(begun),
         }
     }
 
     /// The same, with how the line is spelled.
     #[inline(always)]
     pub(crate) fn of_line(line: &'a [u8]) -> Option<Read<'a>>
-        ensures { IfSome result (λ read. line_entry LINE_LIMIT line.now ≡ Some (member_of read)) }
+        ensures { IfSome result (IsReadOf LINE_LIMIT (body_of line.now)) }
     {
         LineRef::of_text(printable_text(body_of(line))?)
     }
@@ -81,7 +90,7 @@ impl<'a> LineRef<'a> {
     #[inline(always)]
     pub(crate) fn of_printable(line: &'a [u8]) -> Option<Read<'a>>
         requires { list_all is_printable_ascii (body_of line.now) ≡ true }
-        ensures { IfSome result (λ read. line_entry LINE_LIMIT line.now ≡ Some (member_of read)) }
+        ensures { IfSome result (IsReadOf LINE_LIMIT (body_of line.now)) }
     {
         let body = body_of(line);
         if body.len() >= LINE_LIMIT {
@@ -96,15 +105,27 @@ impl<'a> LineRef<'a> {
     fn of_text(text: &'a str) -> Option<Read<'a>>
         requires short { length text.now < LINE_LIMIT }
         requires printable { list_all is_printable text.now ≡ true }
-        ensures { IfSome result (λ read. IsEntryOf LINE_LIMIT text.now (member_of read)) }
+        ensures { IfSome result (IsReadOf LINE_LIMIT text.now) }
     {
         let pair = front_pair(text)?;
-        match placed_members(text, pair.key + TO_OBJECT)? {
+        match placed_members(text, pair.key + TO_OBJECT) {
             Placed::Written(members) => {
                 Some(Read::Written(LineRef::of_parts(text, pair, members)))
             }
-            Placed::Walked(members) => Some(Read::Walked(LineRef::of_parts(text, pair, members))),
+            Placed::Other(fronts) => Some(Read::Begun(Begun { text, pair, fronts })),
         }
+    }
+
+    /// Reads a line on, in any spelling. It may decline any line.
+    #[inline(always)]
+    #[tactic(auto, using(crate::proofs::KeptLemmas::front_entry))]
+    pub(crate) fn walked(begun: Begun<'a>) -> Option<LineRef<'a>>
+        requires { IsBegun LINE_LIMIT begun.text.now begun }
+        ensures { IfSome result (IsEntryOf LINE_LIMIT begun.entry.text.now) }
+    {
+        let Begun { text, pair, fronts } = begun;
+        let members = walked_members(text, pair.key + TO_OBJECT, fronts)?;
+        Some(LineRef::of_parts(text, pair, members))
     }
 
     #[inline(always)]

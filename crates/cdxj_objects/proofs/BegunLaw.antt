@@ -8,13 +8,13 @@ use Rattle.cdxj_objects.specs.declared.members.Members.{Members as Seven}
 use Rattle.cdxj_objects.specs.declared.plain.PlainFronts.{PlainFronts}
 use Rattle.cdxj_objects.specs.declared.span.Span.{Span}
 use Rattle.cdxj_objects.specs.declared.walk.FirstMembers.{FirstMembers}
-use Rattle.cdxj_objects.specs.declared.walk.Later.{Later}
-use Rattle.cdxj_objects.specs.declared.walk.Later.TheVariants.{Mime, Status, Digest, Length, Offset, Filename}
+use Rattle.cdxj_objects.specs.declared.walk.Name.{Name}
+use Rattle.cdxj_objects.specs.declared.walk.Name.TheVariants.{Mime, Status, Digest, Length, Offset, Filename}
 use Rattle.cdxj_objects.specs.ObjectMembers.{AllMembers, all_members, names, with_named}
 use Rattle.cdxj_objects.specs.Plain.{first_front, is_printable, later_front}
 use Rattle.cdxj_objects.specs.PlainPlaces.{AreBegun, IsTextAfter, spans_to}
 use Rattle.cdxj_objects.specs.Spans.{part}
-use Rattle.cdxj_objects.specs.Walk.{AreFirst, IsPlainSpan, IsTurn, IsWrittenTurn, name_of, text}
+use Rattle.cdxj_objects.specs.Walk.{AreFirst, IsPlainSpan, IsTurn, name_of, text}
 use Rattle.cdxj_objects.proofs.PlainBytes.{list_all_plain}
 use Rattle.cdxj_objects.proofs.PlainPlaces as places
 use Rattle.cdxj_objects.proofs.PlainPlaces.{begins_inside, byte_at, has_length}
@@ -29,25 +29,14 @@ module _ (t : List ℕ) (object : ℕ) (all : list_all is_printable t ≡ true) 
   abbrev pub HasBegun : ℕ → Seven Span → Type 0
   HasBegun end spans = HasWalked t object (end + 1) spans × AllMembers (IsPlainSpan t) spans
 
-  next_begun : (member : Later) (at end : ℕ) (spans : Seven Span) → HasBegun at spans
+  next_begun : (member : Name) (at end : ℕ) (spans : Seven Span) → HasBegun at spans
       → IsTextAfter t at (later_front (name_of member)) (at + length (later_front (name_of member))) end
       → end < length t → get_or t end 0 ≡ 34
       → HasBegun end (with_named (name_of member) (record { start = at + length (later_front (name_of member)); end = end }) spans)
   next_begun member at end spans begun after inside closes =
-      let name = name_of member in
-      let start = at + length (later_front name) in
-      let span : Span = record { start = start; end = end } in
-      let turn : IsWrittenTurn t at name spans (with_named name span spans) (end + 1) = record {
-        span = span;
-        begins = refl;
-        text = after;
-        closes = closes;
-        after_is = refl;
-        inside = inside;
-        noted = refl;
-      } in (
-        front_walked t object at start end name spans all (plain_name member) begun.0 after inside closes,
-        written_stand t at name spans _ (end + 1) all begun.1 turn,
+      let name = name_of member in (
+        front_walked t object at (at + length (later_front name)) end name spans all (plain_name member) begun.0 after inside closes,
+        written_stand t at name spans end all begun.1 after inside closes,
       )
 
   module _ (end : ℕ) (after : IsTextAfter t object (first_front names.url) (object + 9) end) (inside : end < length t)
@@ -135,6 +124,6 @@ module _ (t : List ℕ) (object : ℕ) (all : list_all is_printable t ≡ true) 
       subst (AllMembers (IsPlainSpan t)) (sym is) (begun_members m begun quote.0 quote.1).1
   first_stand first (inr any) = any.turn.stand (none_stand t)
 
-  pub first_inside : (first : FirstMembers) → AreFirst t object first → (first.at ≤ length t) × (0 < first.at)
-  first_inside first (inl (m, begun, quote, is)) = (omega (arith, quote.0, quote.2), omega (arith, quote.2))
-  first_inside first (inr any) = (any.behind.inside, omega (arith, any.turn.moves, any.behind.order))
+  pub first_inside : (first : FirstMembers) → AreFirst t object first → first.at ≤ length t
+  first_inside first (inl (m, begun, quote, is)) = omega (arith, quote.0, quote.2)
+  first_inside first (inr any) = any.behind.inside

@@ -1,21 +1,22 @@
 -- A walk over the members of an object, and those among them that stand as they are written.
-use Rattle.std.proofs.Common.{◌≡◌, ℕ, ◌+◌, ◌-◌, ◌<◌, ◌≤◌, true, List, ◌∷◌, ◌++◌, length, drop, get_or, refl, ap, sym, ◌∙◌, subst, arith}
+use Rattle.std.proofs.Common.{◌≡◌, ℕ, ◌+◌, ◌-◌, ◌<◌, ◌≤◌, true, List, ◌∷◌, ◌++◌, length, drop, take, get_or, refl, ap, sym, ◌∙◌, arith}
 use Rattle.std.proofs.Common.{[], append_assoc, drop-drop, length-append}
 use Rattle.std.specs.List.{list_all}
-use Rattle.std.proofs.lemmas.List.{drop_more}
-use Rattle.json.specs.Lex.{begins_colon, between, comma, lex}
+use Rattle.std.proofs.lemmas.List.{drop_more, take-append-drop}
+use Rattle.json.specs.Lex.{begins_colon, between, colon, comma, lex}
 use Rattle.json.specs.Run.{is_plain}
 use Rattle.serde_json.specs.Data.{put}
 use Rattle.cdxj_objects.specs.declared.members.Members.{Members as Seven}
 use Rattle.cdxj_objects.specs.declared.span.Span.{Span}
 use Rattle.cdxj_objects.specs.declared.tokens.Stands.{Stands}
-use Rattle.cdxj_objects.specs.ObjectMembers.{AllMembers, all_members, with_named}
+use Rattle.cdxj_objects.specs.ObjectMembers.{AllMembers, all_members, map_members, with_named}
 use Rattle.cdxj_objects.specs.Plain.{is_printable, later_front}
 use Rattle.cdxj_objects.specs.PlainPlaces.{IsTextAfter}
-use Rattle.cdxj_objects.specs.Spans.{part}
-use Rattle.cdxj_objects.specs.Walk.{IsAnyTurn, IsMember, IsPlainSpan, IsWrittenTurn, name_of, text}
-use Rattle.cdxj_objects.specs.declared.walk.Later.{Later}
-use Rattle.cdxj_objects.specs.declared.walk.Later.TheVariants.{Mime, Status, Digest, Length, Offset, Filename}
+use Rattle.cdxj_objects.specs.Spans.{part, span_text}
+use Rattle.cdxj_objects.specs.Walk.{IsAnyTurn, IsBlankTo, IsMember, IsNameTo, IsPlainSpan, IsTurn, IsValueAt, name_of, quoted_name, span_of, text, value_of}
+use Rattle.cdxj_objects.specs.declared.walk.Name.{Name}
+use Rattle.cdxj_objects.specs.declared.walk.Name.TheVariants.{Url, Mime, Status, Digest, Length, Offset, Filename}
+use Rattle.cdxj_objects.proofs.FoundLaw.{named_seen}
 use Rattle.cdxj_objects.proofs.PlainBytes.{list_all_plain}
 use Rattle.cdxj_objects.proofs.PlainPlaces as places
 use Rattle.cdxj_objects.proofs.PlainPlaces.{begins_inside, has_length}
@@ -75,33 +76,26 @@ unquoted_is name rest = grind (arith, append_assoc)
 unquoted_size : (name : List ℕ) → length (later_front name) ≡ length (unquoted name) + 1
 unquoted_size name = grind (arith, length-append)
 
-written_stands : (t : List ℕ) (at : ℕ) (name : List ℕ) (old new : Seven Span) (next : ℕ) → list_all is_printable t ≡ true
-    → (turn : IsWrittenTurn t at name old new next) → IsPlainSpan t turn.span
-written_stands t at name old new next all turn =
-    let start = turn.span.start in
-    let end = turn.span.end in
+front_stands : (t : List ℕ) (at : ℕ) (name : List ℕ) (end : ℕ) → list_all is_printable t ≡ true
+    → IsTextAfter t at (later_front name) (at + length (later_front name)) end → end < length t → get_or t end 0 ≡ 34
+    → IsPlainSpan t (record { start = at + length (later_front name); end = end })
+front_stands t at name end all after inside closes =
+    let start = at + length (later_front name) in
     let s = part t start end in
     let u = drop (end + 1) t in
     let here : drop at t ≡ unquoted name ++ 34 ∷ (s ++ 34 ∷ u) =
-    turn.text.is ∙ ap (λ l. later_front name ++ (s ++ l)) (drop_more t end 0 turn.inside ∙ ap (λ b. b ∷ u) turn.closes)
+    after.is ∙ ap (λ l. later_front name ++ (s ++ l)) (drop_more t end 0 inside ∙ ap (λ b. b ∷ u) closes)
     ∙ unquoted_is name (s ++ 34 ∷ u) in
     record {
-      plain = grind (arith, list_all_plain s, turn.text.no_quote, all_take is_printable (end - start) (drop start t), all_drop is_printable start t all);
-      order = turn.text.order;
-      inside = turn.text.inside;
+      plain = grind (arith, list_all_plain s, after.no_quote, all_take is_printable (end - start) (drop start t), all_drop is_printable start t all);
+      order = after.order;
+      inside = after.inside;
       cut = λ utf8. (places.next t utf8 34 (omega arith) at (unquoted name) s u start end (begins_inside t at 34 _ here, here)
-          (omega (arith, turn.begins, unquoted_size name)) (has_length t start end turn.text.inside turn.text.order)).ends;
+          (omega (arith, unquoted_size name)) (has_length t start end after.inside after.order)).ends;
     }
 
-pub front_few : (member : Later) → length (later_front (name_of member)) ≤ 16
-front_few Mime = omega arith
-front_few Status = omega arith
-front_few Digest = omega arith
-front_few Length = omega arith
-front_few Offset = omega arith
-front_few Filename = omega arith
-
-pub plain_name : (member : Later) → list_all is_plain (name_of member) ≡ true
+pub plain_name : (member : Name) → list_all is_plain (name_of member) ≡ true
+plain_name Url = refl
 plain_name Mime = refl
 plain_name Status = refl
 plain_name Digest = refl
@@ -109,27 +103,49 @@ plain_name Length = refl
 plain_name Offset = refl
 plain_name Filename = refl
 
-pub written_walked : (t : List ℕ) (object at : ℕ) (member : Later) (old new : Seven Span) (next : ℕ)
-    → list_all is_printable t ≡ true → 0 < at → HasWalked t object at old
-    → IsWrittenTurn t (at - 1) (name_of member) old new next → HasWalked t object next new
-written_walked t object at member old new next all some walked turn =
-    let name = name_of member in
-    let to_at : at - 1 + 1 ≡ at = omega (arith, some) in
-    let before : HasWalked t object (at - 1 + 1) old = subst (λ n. HasWalked t object n old) (sym to_at) walked in
-    let after : HasWalked t object (turn.span.end + 1) (with_named name turn.span old) =
-    front_walked t object (at - 1) turn.span.start turn.span.end name old all (plain_name member) before turn.text
-    turn.inside turn.closes in
-    subst (λ n. HasWalked t object n new) (sym turn.after_is)
-    (subst (λ m. HasWalked t object (turn.span.end + 1) m) (sym turn.noted) after)
-
-pub written_stand : (t : List ℕ) (at : ℕ) (name : List ℕ) (old new : Seven Span) (next : ℕ)
-    → list_all is_printable t ≡ true → AllMembers (IsPlainSpan t) old → IsWrittenTurn t at name old new next
-    → AllMembers (IsPlainSpan t) new
-written_stand t at name old new next all stand turn =
-    subst (AllMembers (IsPlainSpan t)) (sym turn.noted)
-    (named_all (IsPlainSpan t) name turn.span old (written_stands t at name old new next all turn) stand)
+pub written_stand : (t : List ℕ) (at : ℕ) (name : List ℕ) (old : Seven Span) (end : ℕ) → list_all is_printable t ≡ true
+    → AllMembers (IsPlainSpan t) old → IsTextAfter t at (later_front name) (at + length (later_front name)) end
+    → end < length t → get_or t end 0 ≡ 34
+    → AllMembers (IsPlainSpan t) (with_named name (record { start = at + length (later_front name); end = end }) old)
+written_stand t at name old end all stand after inside closes =
+    named_all (IsPlainSpan t) name _ old (front_stands t at name end all after inside closes) stand
 
 -- ---- a turn in any spelling
+
+pub name_there : (t : List ℕ) (at n : ℕ) (bytes name : List ℕ) → at + 16 ≤ length t → n ≤ 16
+    → take n (drop at t) ≡ take n bytes → take n bytes ≡ quoted_name name → IsNameTo t at name (at + n)
+name_there t at n bytes name long few same is = record {
+  order = omega arith;
+  inside = omega (arith, long, few);
+  is = sym (take-append-drop n (drop at t)) ∙ ap (λ l. l ++ drop n (drop at t)) (same ∙ is)
+      ∙ ap (λ l. quoted_name name ++ l) (drop-drop n at t);
+}
+
+quoted_is : (name rest : List ℕ) → quoted_name name ++ rest ≡ 34 ∷ (name ++ 34 ∷ 58 ∷ rest)
+quoted_is name rest = grind (arith, append_assoc)
+
+pub named_turn : (t : List ℕ) (at to begin : ℕ) (member : Name) (v : Stands) (old : Seven Span)
+    → IsNameTo t at (name_of member) to → IsBlankTo t to begin → IsValueAt t begin v
+    → IsTurn t at old (with_named (name_of member) (span_of v) old) v.after
+named_turn t at to begin member v old named before value =
+    let name = name_of member in
+    record {
+      name = name;
+      value = value_of t v;
+      member = record {
+        at_colon = 58 ∷ drop to t;
+        at_value = drop begin t;
+        name = ap (λ l. lex between l) (named.is ∙ quoted_is name (drop to t)) ∙ lex_text name (58 ∷ drop to t) (plain_name member);
+        colon_is = lex_colon (drop to t) ∙ ap (λ l. colon ∷ l) (sym before.same);
+        value = value.is;
+        fits = value.fits;
+      };
+      moves = omega (arith, named.order, before.order, value.moves);
+      inside = value.after_inside;
+      texts = named_seen (span_text t) name (span_of v) old
+          ∙ ap (λ x. with_named name x (map_members (span_text t) old)) (sym value.text_is);
+      stand = named_all (IsPlainSpan t) name (span_of v) old value.stands;
+    }
 
 pub any_first : (t : List ℕ) (object at : ℕ) (old new : Seven Span) → old ≡ all_members nowhere
     → IsAnyTurn t object old new at → HasWalked t object at new

@@ -1,11 +1,12 @@
 -- Members whose texts stand in their object as they are.
-use Rattle.std.specs.Prelude.{◌≡◌, ℕ, List, Some, drop}
+use Rattle.std.specs.Prelude.{◌≡◌, ℕ, List, Some, drop, IfSome}
 use Rattle.cdxj_objects.specs.declared.placed.Placed.{Placed}
-use Rattle.cdxj_objects.specs.declared.placed.Placed.TheVariants.{Written, Walked}
+use Rattle.cdxj_objects.specs.declared.placed.Placed.TheVariants.{Written, Other}
 use Rattle.cdxj_objects.specs.declared.placed.PlacedMembers.{PlacedMembers}
 use Rattle.cdxj_objects.specs.FoundMembers.{FoundValue, members_in}
 use Rattle.cdxj_objects.specs.MemberValues.{filename_value, offset_value}
 use Rattle.cdxj_objects.specs.Plain.{ArePlain, values_of_texts}
+use Rattle.cdxj_objects.specs.PlainPlaces.{AreBegun}
 use Rattle.cdxj_objects.specs.Spans.{AreSpans, span_text, span_texts}
 use Rattle.cdxj_objects.specs.Spelling.{found_texts}
 
@@ -21,7 +22,7 @@ pub record ArePlacedMembers (text : List ℕ) (object : ℕ) (m : PlacedMembers)
   pub parts : AreSpans text m.texts
   pub plain : ArePlain (span_texts text m.texts)
 
--- the members, whatever the spelling
-abbrev pub members_of : Placed → PlacedMembers
-members_of (Written m) = m
-members_of (Walked m) = m
+-- an object that begins there was read, or the members that begin it
+abbrev pub IsPlaced : List ℕ → ℕ → Placed → Type 0
+IsPlaced text object (Written m) = ArePlacedMembers text object m
+IsPlaced text object (Other begun) = IfSome begun (AreBegun text object)

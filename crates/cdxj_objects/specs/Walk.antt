@@ -1,13 +1,13 @@
 -- A member that a walk over an object passes: its name, and a text or a whole number.
-use Rattle.std.specs.Prelude.{◌≡◌, ◌⊎◌, ℕ, ◌+◌, ◌<◌, ◌≤◌, ◌^◌, Bool, true, List, ◌∷◌, decimal, drop, length, if◌then◌else◌, ◌==◌, ◌||◌, bytes_eq, false, get_or, not, take, ◌&&◌}
+use Rattle.std.specs.Prelude.{◌≡◌, ◌⊎◌, ℕ, ◌+◌, ◌++◌, codes, ◌<◌, ◌≤◌, ◌^◌, Bool, true, List, ◌∷◌, decimal, drop, length, if◌then◌else◌, ◌==◌, ◌||◌, bytes_eq, false, get_or, not, ◌&&◌}
 use Rattle.json.specs.Token.{Token}
 use Rattle.json.specs.Text.{content, plain}
 use Rattle.json.specs.Lex.{lex, between, in_string, token, colon, operator_lexeme}
 use Rattle.serde_json.specs.Data.{Data, null, boolean, string, number, unsigned, negative, float, array, object}
 use Rattle.cdxj_objects.specs.declared.plain.PlainFronts.{PlainFronts}
 use Rattle.cdxj_objects.specs.declared.walk.FirstMembers.{FirstMembers}
-use Rattle.cdxj_objects.specs.declared.walk.Later.{Later}
-use Rattle.cdxj_objects.specs.declared.walk.Later.TheVariants.{Mime, Status, Digest, Length, Offset, Filename}
+use Rattle.cdxj_objects.specs.declared.walk.Name.{Name}
+use Rattle.cdxj_objects.specs.declared.walk.Name.TheVariants.{Url, Mime, Status, Digest, Length, Offset, Filename}
 use Rattle.cdxj_objects.specs.declared.tokens.Stands.{Stands}
 use Rattle.cdxj_objects.specs.declared.span.Span.{Span}
 use Rattle.cdxj_objects.specs.declared.members.Members.{Members}
@@ -19,8 +19,7 @@ use Rattle.std.specs.Char.{is_ascii_hexdigit}
 use Rattle.std.specs.List.{list_all}
 use Rattle.std.specs.Str.{IsUtf8}
 use Rattle.json.specs.Run.{is_plain}
-use Rattle.cdxj_objects.specs.Plain.{later_front}
-use Rattle.cdxj_objects.specs.PlainPlaces.{AreBegun, IsTextAfter, spans_to}
+use Rattle.cdxj_objects.specs.PlainPlaces.{AreBegun, spans_to}
 use Rattle.cdxj_objects.specs.Spans.{IsPartBetween, part, span_text, span_texts}
 
 -- a backslash and this byte stand for a byte
@@ -197,8 +196,8 @@ AreFirst t at first =
     ((m : PlainFronts) × AreBegun t at m × IsBehindQuote t m.end first.at × (first.spans ≡ spans_to m.end m.at))
     ⊎ IsAnyTurn t at (all_members (record { start = 0; end = 0 })) first.spans first.at
 
--- the name of a member that comes behind another
-abbrev pub name_of : Later → List ℕ
+abbrev pub name_of : Name → List ℕ
+name_of Url = names.url
 name_of Mime = names.mime
 name_of Status = names.status
 name_of Digest = names.digest
@@ -206,21 +205,15 @@ name_of Length = names.length
 name_of Offset = names.offset
 name_of Filename = names.filename
 
--- the front of a member stands there, as it is written
-pub record IsFrontAt (t : List ℕ) (at : ℕ) (member : Later) : Type 0 where
-  pub inside : at + 16 ≤ length t
-  pub is : take (length (later_front (name_of member))) (drop at t) ≡ later_front (name_of member)
+-- a name between its quotes, and a colon
+abbrev pub quoted_name : List ℕ → List ℕ
+quoted_name name = codes "\"" ++ (name ++ codes "\":")
 
--- a text stands behind a front that is written there, and its place is noted under a name
-pub record IsWrittenTurn (t : List ℕ) (at : ℕ) (name : List ℕ) (old new : Members Span) (after : ℕ) : Type 0
-  where
-    pub span : Span
-    pub begins : span.start ≡ at + length (later_front name)
-    pub text : IsTextAfter t at (later_front name) span.start span.end
-    pub closes : get_or t span.end 0 ≡ 34
-    pub after_is : after ≡ span.end + 1
-    pub inside : span.end < length t
-    pub noted : new ≡ with_named name span old
+-- it stands there, up to a place
+pub record IsNameTo (t : List ℕ) (at : ℕ) (name : List ℕ) (to : ℕ) : Type 0 where
+  pub order : at ≤ to
+  pub inside : to ≤ length t
+  pub is : drop at t ≡ quoted_name name ++ drop to t
 
 -- the text behind a place is an object, and the texts of its members stand there
 pub record AreWalked (t : List ℕ) (object : ℕ) (m : Members Span) : Type 0 where

@@ -76,6 +76,38 @@ pub(crate) const FRONTS: Members<Front> = Members {
     },
 };
 
+/// Each name between its quotes, and a colon, filled up likewise.
+pub(crate) const QUOTED: Members<Front> = Members {
+    url: Front {
+        bytes: *b"\"url\":          ",
+        length: 6,
+    },
+    mime: Front {
+        bytes: *b"\"mime\":         ",
+        length: 7,
+    },
+    status: Front {
+        bytes: *b"\"status\":       ",
+        length: 9,
+    },
+    digest: Front {
+        bytes: *b"\"digest\":       ",
+        length: 9,
+    },
+    length: Front {
+        bytes: *b"\"length\":       ",
+        length: 9,
+    },
+    offset: Front {
+        bytes: *b"\"offset\":       ",
+        length: 9,
+    },
+    filename: Front {
+        bytes: *b"\"filename\":     ",
+        length: 11,
+    },
+};
+
 impl<T: Copy> Copy for Members<T> {}
 
 impl<T: Copy> Clone for Members<T> {

@@ -3,7 +3,7 @@ ghost use Rattle.std.specs.Prelude.{◌≡◌, ◌<◌, ◌^◌, true, Some, dec
 ghost use Rattle.std.specs.Char.{is_ascii_digit};
 ghost use Rattle.std.specs.List.{list_all};
 ghost use Rattle.cdxj_places.specs.Places.{offset_of};
-ghost use Rattle.cdxj_objects.specs.PlacedMembers.{ArePlacedMembers, members_of};
+ghost use Rattle.cdxj_objects.specs.PlacedMembers.{ArePlacedMembers, IsPlaced};
 ghost use Rattle.cdxj_objects.specs.Plain.{is_printable};
 ghost use Rattle.cdxj_objects.specs.PlainPlaces.{AreBegun};
 
@@ -20,11 +20,11 @@ pub struct PlacedMembers {
     pub offset: u64,
 }
 
-/// Members that were found in place: in an object as it is written, or in any other spelling.
+/// An object that was read as it is written, or what is known of one in any other spelling.
 #[derive(Drop)]
 pub enum Placed {
     Written(PlacedMembers),
-    Walked(PlacedMembers),
+    Other(Option<PlainFronts>),
 }
 
 #[inline(always)]
@@ -52,7 +52,12 @@ fn written_offset(text: &str) -> Option<u64>
 /// and ends with it. It reads any spelling, but may decline any object. A file name of digits alone
 /// may be a number, and is declined.
 #[tactic(auto, using(crate::proofs::PlacedLaw::walked_placed))]
-fn walked_members(text: &str, object: usize, begun: Option<PlainFronts>) -> Option<PlacedMembers>
+#[inline(always)]
+pub fn walked_members(
+    text: &str,
+    object: usize,
+    begun: Option<PlainFronts>,
+) -> Option<PlacedMembers>
     requires printable { list_all is_printable text.now ≡ true }
     requires begun { IfSome begun (AreBegun text.now object) }
     ensures { IfSome result (ArePlacedMembers text.now object) }
@@ -67,27 +72,6 @@ fn walked_members(text: &str, object: usize, begun: Option<PlainFronts>) -> Opti
         texts: spans,
         offset,
     })
-}
-
-/// The same of an object that begins with all seven members, as they are written.
-#[cold]
-#[inline(never)]
-fn walked_on(text: &str, object: usize, fronts: PlainFronts) -> Option<PlacedMembers>
-    requires printable { list_all is_printable text.now ≡ true }
-    requires begun { AreBegun text.now object fronts }
-    ensures { IfSome result (ArePlacedMembers text.now object) }
-{
-    walked_members(text, object, Some(fronts))
-}
-
-/// The same of any other object.
-#[cold]
-#[inline(never)]
-fn walked_from_first(text: &str, object: usize) -> Option<PlacedMembers>
-    requires { list_all is_printable text.now ≡ true }
-    ensures { IfSome result (ArePlacedMembers text.now object) }
-{
-    walked_members(text, object, None)
 }
 
 /// Returns where the texts of an object's members stand that begins so, if it ends behind its file
@@ -112,19 +96,18 @@ fn closed_members(text: &str, object: usize, fronts: &PlainFronts) -> Option<Pla
     })
 }
 
-/// Returns where the texts of a line's members stand, if the object begins at a place of the text
-/// and ends with it. It reads any spelling, and first the one of a written line. It may decline any
-/// object.
+/// Returns where the texts of a line's members stand, if the object begins at a place of the text,
+/// ends with it, and is written as lines are. Otherwise it returns what [`walked_members`] takes.
 #[inline(always)]
-pub fn placed_members(text: &str, object: usize) -> Option<Placed>
+pub fn placed_members(text: &str, object: usize) -> Placed
     requires { list_all is_printable text.now ≡ true }
-    ensures { IfSome result (λ placed. ArePlacedMembers text.now object (members_of placed)) }
+    ensures { IsPlaced text.now object result }
 {
     match begun_fronts(text.as_bytes(), object) {
         Some(fronts) => match closed_members(text, object, &fronts) {
-            Some(members) => Some(Placed::Written(members)),
-            None => Some(Placed::Walked(walked_on(text, object, fronts)?)),
+            Some(members) => Placed::Written(members),
+            None => Placed::Other(Some(fronts)),
         },
-        None => Some(Placed::Walked(walked_from_first(text, object)?)),
+        None => Placed::Other(None),
     }
 }

@@ -17,7 +17,7 @@ const TOO_MANY_DIGITS: usize = 16;
 
 /// Where the fronts of an object's members stand, the offset, and where the last text ends.
 #[derive(Clone, Copy, Drop)]
-pub(crate) struct PlainFronts {
+pub struct PlainFronts {
     pub at: Members<usize>,
     pub offset: u64,
     pub end: usize,

@@ -87,7 +87,8 @@ fn is_short_escape(byte: u8) -> bool
 #[inline(always)]
 fn is_code_unit(text: &[u8], at: usize) -> bool
     ensures within { result ≡ true → at + 4 ≤ length text.now }
-    ensures digits { result ≡ true → is_basic_unit (get_or text.now at 0) (get_or text.now (at + 1) 0)
+    ensures digits { result ≡ true
+        → is_basic_unit (get_or text.now at 0) (get_or text.now (at + 1) 0)
         (get_or text.now (at + 2) 0) (get_or text.now (at + 3) 0) ≡ true }
 {
     if at > text.len() || text.len() - at < 4 {

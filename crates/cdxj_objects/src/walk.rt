@@ -1,14 +1,14 @@
 //! A walk over the members of an object, where they stand.
-ghost use Rattle.std.specs.Prelude.{◌≡◌, ◌<◌, true, length, IfSome};
+ghost use Rattle.std.specs.Prelude.{◌≡◌, ◌<◌, ◌≤◌, true, length, take, IfSome};
 ghost use Rattle.std.specs.List.{list_all};
 ghost use Rattle.cdxj_objects.specs.ObjectMembers.{with_named};
-ghost use Rattle.cdxj_objects.specs.Plain.{is_printable, later_front};
+ghost use Rattle.cdxj_objects.specs.Plain.{is_printable};
 ghost use Rattle.cdxj_objects.specs.PlainPlaces.{AreBegun};
-ghost use Rattle.cdxj_objects.specs.Walk.{AreFirst, AreWalked, IsAnyTurn, IsBehindQuote, IsFrontAt, IsOther};
-ghost use Rattle.cdxj_objects.specs.Walk.{IsPassed, IsTurn, IsWrittenTurn, name_of, span_of};
+ghost use Rattle.cdxj_objects.specs.Walk.{AreFirst, AreWalked, IsAnyTurn, IsBehindQuote, IsNameTo};
+ghost use Rattle.cdxj_objects.specs.Walk.{IsOther, IsPassed, IsTurn, name_of, quoted_name, span_of};
 
-use crate::lanes::{has_front, holds_lanes, place_of_either};
-use crate::members::{FRONTS, Members};
+use crate::lanes::{Front, has_front, holds_lanes};
+use crate::members::{Members, QUOTED};
 use crate::plain::{PlainFronts, texts_behind};
 use crate::span::Span;
 use crate::tokens::{Stands, behind, byte_is, escaped_to, skip_blanks, text_to, value_at};
@@ -104,7 +104,7 @@ fn skip(text: &[u8], at: usize, members: Members<Span>) -> Option<usize>
 }
 
 /// Reads the member that stands at a place, notes where its text stands, and returns what follows.
-#[inline(always)]
+#[inline(never)]
 #[tactic(auto, using(crate::proofs::WalkLaw::passed_turn))]
 fn turn(text: &[u8], at: usize, members: &mut Members<Span>) -> Option<usize>
     requires { list_all is_printable text.now ≡ true }
@@ -120,9 +120,10 @@ fn turn(text: &[u8], at: usize, members: &mut Members<Span>) -> Option<usize>
     }
 }
 
-/// One of the members that come behind another in a written line.
+/// One of the seven members.
 #[derive(Clone, Copy, Drop)]
-enum Later {
+enum Name {
+    Url,
     Mime,
     Status,
     Digest,
@@ -131,81 +132,91 @@ enum Later {
     Filename,
 }
 
-/// Returns the member whose front, as it is written, stands at a place, if there is one. It may
-/// overlook any.
+/// Returns this name and the place behind its colon, if it stands at a place between its quotes.
 #[inline(always)]
-fn front_at(text: &[u8], at: usize) -> Option<Later>
-    ensures { IfSome result (IsFrontAt text.now at) }
+#[tactic(auto, using(crate::proofs::WrittenLaw::name_there))]
+fn name_to(text: &[u8], at: usize, name: Name, quoted: Front) -> Option<(Name, usize)>
+    requires few { quoted.length ≤ 16 }
+    requires is { take quoted.length quoted.bytes ≡ quoted_name (name_of name) }
+    ensures { IfSome result (λ p. IsNameTo text.now at (name_of p.0) p.1) }
+{
+    if has_front(text, at, quoted) {
+        Some((name, at + quoted.length))
+    } else {
+        None
+    }
+}
+
+/// Returns the name that stands at a place, and the place behind its colon, if it is one of the
+/// seven. It may overlook any.
+#[inline(always)]
+fn named_at(text: &[u8], at: usize) -> Option<(Name, usize)>
+    ensures { IfSome result (λ p. IsNameTo text.now at (name_of p.0) p.1) }
 {
     if !holds_lanes(text, at) {
         return None;
     }
-    let fronts = FRONTS;
-    match text[at + 4] {
-        b'm' if has_front(text, at, fronts.mime) => Some(Later::Mime),
-        b's' if has_front(text, at, fronts.status) => Some(Later::Status),
-        b'd' if has_front(text, at, fronts.digest) => Some(Later::Digest),
-        b'l' if has_front(text, at, fronts.length) => Some(Later::Length),
-        b'o' if has_front(text, at, fronts.offset) => Some(Later::Offset),
-        b'f' if has_front(text, at, fronts.filename) => Some(Later::Filename),
+    let quoted = QUOTED;
+    match text[at + 1] {
+        b'u' => name_to(text, at, Name::Url, quoted.url),
+        b'm' => name_to(text, at, Name::Mime, quoted.mime),
+        b's' => name_to(text, at, Name::Status, quoted.status),
+        b'd' => name_to(text, at, Name::Digest, quoted.digest),
+        b'l' => name_to(text, at, Name::Length, quoted.length),
+        b'o' => name_to(text, at, Name::Offset, quoted.offset),
+        b'f' => name_to(text, at, Name::Filename, quoted.filename),
         _ => None,
     }
 }
 
 #[inline(always)]
-fn front_length(member: Later) -> usize
-    ensures { result ≡ length (later_front (name_of member)) }
+fn put_named(members: &mut Members<Span>, name: Name, span: Span)
+    ensures { members.new ≡ with_named (name_of name) span members.old }
 {
-    match member {
-        Later::Mime => 12,
-        Later::Status => 14,
-        Later::Digest => 14,
-        Later::Length => 14,
-        Later::Offset => 14,
-        Later::Filename => 16,
+    match name {
+        Name::Url => members.url = span,
+        Name::Mime => members.mime = span,
+        Name::Status => members.status = span,
+        Name::Digest => members.digest = span,
+        Name::Length => members.length = span,
+        Name::Offset => members.offset = span,
+        Name::Filename => members.filename = span,
     }
 }
 
+/// Reads the value of a name that stands at a place, up to this one, notes where its text stands,
+/// and returns what follows.
 #[inline(always)]
-fn put_later(members: &mut Members<Span>, member: Later, span: Span)
-    ensures { members.new ≡ with_named (name_of member) span members.old }
-{
-    match member {
-        Later::Mime => members.mime = span,
-        Later::Status => members.status = span,
-        Later::Digest => members.digest = span,
-        Later::Length => members.length = span,
-        Later::Offset => members.offset = span,
-        Later::Filename => members.filename = span,
-    }
-}
-
-/// Reads the text behind a front that stands at a place, notes where it stands, and returns the
-/// place behind it.
-#[inline(always)]
-fn written_turn(text: &[u8], at: usize, member: Later, members: &mut Members<Span>) -> Option<usize>
+#[tactic(auto, using(crate::proofs::WrittenLaw::named_turn))]
+fn named_turn(
+    text: &[u8],
+    at: usize,
+    name: Name,
+    colon: usize,
+    members: &mut Members<Span>,
+) -> Option<usize>
     requires printable { list_all is_printable text.now ≡ true }
-    requires front { IsFrontAt text.now at member }
-    ensures { IfSome result (IsWrittenTurn text.now at (name_of member) members.old members.new) }
+    requires name { IsNameTo text.now at (name_of name) colon }
+    ensures { IfSome result (IsTurn text.now at members.old members.new) }
 {
-    let start = at + front_length(member);
-    let end = place_of_either(text, start, b'"', b'\\');
-    if !byte_is(text, end, b'"') {
-        return None;
-    }
-    put_later(members, member, Span { start, end });
-    Some(end + 1)
+    let value = value_at(text, skip_blanks(text, colon))?;
+    put_named(members, name, span_of(value));
+    Some(value.after)
 }
 
-/// Reads the member behind a comma, in any spelling, notes where its text stands, and returns the
-/// place of the comma or the brace behind it.
+/// Reads the member behind a comma, notes where its text stands, and returns the place of the comma
+/// or the brace behind it.
+#[inline(always)]
 fn any_turn(text: &[u8], at: usize, members: &mut Members<Span>) -> Option<usize>
     requires printable { list_all is_printable text.now ≡ true }
     requires inside { at < length text.now }
     ensures { IfSome result (IsAnyTurn text.now at members.old members.new) }
 {
     let begin = skip_blanks(text, at + 1);
-    let after = turn(text, begin, members)?;
+    let after = match named_at(text, begin) {
+        Some((name, colon)) => named_turn(text, begin, name, colon, members)?,
+        None => turn(text, begin, members)?,
+    };
     Some(skip_blanks(text, after))
 }
 
@@ -252,7 +263,8 @@ fn first_members(text: &[u8], object: usize, begun: Option<PlainFronts>) -> Opti
 
 /// Returns where the texts of an object's members stand, if the object begins at a place and ends
 /// with the text, and its values are texts and whole numbers. It may decline any object.
-#[tactic(auto, using(crate::proofs::WrittenLaw::any_next, crate::proofs::WrittenLaw::written_stand, crate::proofs::WrittenLaw::written_walked))]
+#[tactic(auto, using(crate::proofs::WrittenLaw::any_next))]
+#[inline(always)]
 pub(crate) fn members_at(
     text: &[u8],
     object: usize,
@@ -269,10 +281,7 @@ pub(crate) fn members_at(
     let mut members = first.spans;
     let mut at = first.at;
     'members: while byte_is(text, at, b',') {
-        at = match front_at(text, at - 1) {
-            Some(member) => written_turn(text, at - 1, member, &mut members)?,
-            None => any_turn(text, at, &mut members)?,
-        };
+        at = any_turn(text, at, &mut members)?;
     }
     if byte_is(text, at, b'}') && at + 1 == text.len() {
         Some(members)

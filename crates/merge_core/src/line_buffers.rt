@@ -22,6 +22,20 @@ use json::Scratch;
 use source_core::{Cursor, LineBytes, LineReadFault, Source};
 use std::alloc::Global;
 
+/// Returns the line of these bytes in a buffer of its own. It is apart, so that reading into a
+/// reused buffer needs no room for another line.
+#[cold]
+#[inline(never)]
+#[tactic(auto, using(crate::proofs::InputLemmas::no_entry))]
+fn new_line(alloc: Global, bytes: &[u8]) -> Result<Box<Line>, LineFault>
+    ensures { GivesEntry result bytes.now }
+{
+    match Box::new(alloc, Line::read(alloc, bytes)?) {
+        Ok(line) => Ok(line),
+        Err(_) => Err(LineFault::Memory),
+    }
+}
+
 /// Returns the line of these bytes, in the buffer of a line that isn't needed any more if there is
 /// one.
 #[tactic(auto, using(crate::proofs::InputLemmas::no_entry))]
@@ -43,10 +57,7 @@ fn line_of(
             }
             Ok(line)
         }
-        None => match Box::new(alloc, Line::read(alloc, bytes)?) {
-            Ok(line) => Ok(line),
-            Err(_) => Err(LineFault::Memory),
-        },
+        None => new_line(alloc, bytes),
     }
 }
 

@@ -6,10 +6,8 @@ pub members-init : goal.members-init
 members-init c =
     let t = c.args.text.now in
     let is = c.in_ok-first.ensures in
-    let inside = first_inside t c.args.object c.requires.printable c.in_ok-first.first is in
     record {
-      inside = inside.0;
-      some = inside.1;
+      inside = first_inside t c.args.object c.requires.printable c.in_ok-first.first is;
       walked = first_walked t c.args.object c.requires.printable c.in_ok-first.first is;
       stand = first_stand t c.args.object c.requires.printable c.in_ok-first.first is;
     }

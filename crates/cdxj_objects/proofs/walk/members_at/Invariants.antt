@@ -1,4 +1,4 @@
-use Rattle.std.proofs.Common.{◌-◌, ◌<◌, ◌≤◌, length}
+use Rattle.std.proofs.Common.{◌-◌, ◌≤◌, length}
 use Rattle.cdxj_objects.specs.ObjectMembers.{AllMembers}
 use Rattle.cdxj_objects.specs.Walk.{IsPlainSpan}
 use Rattle.cdxj_objects.proofs.WalkLaw.{HasWalked}
@@ -7,7 +7,6 @@ use Rattle.cdxj_objects.proofs.walk.members_at.Given as goal
 abbrev pub invariant-members : goal.invariant-members
 invariant-members l = record {
   inside : l.at ≤ length l.text;
-  some : 0 < l.at;
   walked : HasWalked l.text l.object l.at l.members;
   stand : AllMembers (IsPlainSpan l.text) l.members;
 }
