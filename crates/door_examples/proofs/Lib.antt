@@ -1,5 +1,6 @@
 mod ReadArchives
 mod ReadTexts
+mod AnsweredQueries
 mod ScannedArchives
 mod ShelfFiles
 mod ShelfOutcomes

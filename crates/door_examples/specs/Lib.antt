@@ -1,4 +1,5 @@
 pub mod Archives
 pub mod Texts
+pub mod Answers
 pub mod Scans
 pub mod Shelf

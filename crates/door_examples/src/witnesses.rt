@@ -1,4 +1,5 @@
 //! What the definitions say of small archives, indexes and queries. So none of them says nothing, and none is too strict.
+ghost use Rattle.door_examples.specs.Answers.{QueriesHavePages};
 ghost use Rattle.door_examples.specs.Archives.{InfoIsRead, PagesAreAccepted};
 ghost use Rattle.door_examples.specs.Scans.{TwoAreScannable, TwoAreScanned};
 ghost use Rattle.door_examples.specs.Texts.{KeyIsFound, LineIsIndex, QueryIsRead};
@@ -16,6 +17,11 @@ pub fn texts_are_read()
     ensures key { KeyIsFound }
     ensures line { LineIsIndex }
     ensures query { QueryIsRead }
+{}
+
+/// Queries have their pages: of a host and of a domain, of a time, with a condition, collapsed, and in json with a key.
+pub fn queries_have_pages()
+    ensures { QueriesHavePages }
 {}
 
 /// The pages of two archives are written. Nothing is at fault, so a scan of them is refused for lack of memory alone.
