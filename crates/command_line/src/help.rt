@@ -33,7 +33,15 @@ Examples:
   warcdx serve crawl.cdxj < queries
   warcdx get 4096 crawl.warc
   warcdx scan 100 'url=example.com/*' crawl-1.warc crawl-2.warc
-  gunzip -c crawl.warc.gz | warcdx verify -
+  ssh host cat crawl.warc | warcdx verify -
+
+Other commands:
+  warcdx-gz       all of this, of .warc.gz files too
+  warcdx-update   keeps one index of the archives in a folder
+  warcdx-fetch    writes a page by its URL, or all that a query selects
+  warcdx-verify   checks the digests of payloads too
+  warcdx-cdx      converts CDX files to indexes, and back
+  warcdx-gateway  answers queries over HTTP, and shows captures in a browser
 
 Exit status:
   0  success, and no digest differs; or help was printed

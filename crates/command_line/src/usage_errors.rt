@@ -63,7 +63,7 @@ fn command_tip(word: &str) -> Option<&'static str> {
     match word {
         "help" => Some("'warcdx --help' and 'warcdx COMMAND --help' print help"),
         "version" => Some("'warcdx --version' prints the version"),
-        _ if is_file_name(word) => Some("a command precedes the files, as in 'warcdx index FILE'"),
+        _ if is_file_name(word) => Some("a command precedes the files, as in 'index FILE'"),
         _ => None,
     }
 }

@@ -6,22 +6,19 @@ use capture_core::CaptureFault;
 use command_line::Program;
 use index_core::IndexFault;
 use query_core::{AnswerFault, QueryFault};
-use query_text::is_parameter;
 use std::rt::Runtime;
 use warc_core::Cause;
 
 const BAD_LINE: &str = "The line that begins there isn't one of a CDXJ index.";
 
+const BYTE_ORDER_MARK: &str = "It begins with a byte order mark: remove its first 3 bytes.";
+
 /// Why an index isn't read from a pipe.
 pub const NO_PIPE: &str =
     "An index is a file, because it is searched: write what a pipe has to a file first.";
 
-/// Returns the first name in a query text that isn't that of a parameter, if there is one.
-pub fn unknown_parameter(text: &str) -> Option<&str> {
-    text.split('&')
-        .map(parameter_name)
-        .find(|name| is_unknown(name))
-}
+/// What to do with a part of a query that was passed as a file.
+pub const ONE_QUERY: &str = "A query is one argument, with & between its parameters.";
 
 /// Returns `true` if a name has no escape, and no byte that a terminal may take for another line.
 pub fn is_plain(name: &str) -> bool {
@@ -33,28 +30,16 @@ pub fn is_address(name: &str) -> bool {
     name.contains('.') || name.contains('/')
 }
 
-fn parameter_name(piece: &str) -> &str {
-    match piece.split_once('=') {
-        Some((name, _value)) => name,
-        None => piece,
-    }
-}
-
-/// Returns `true` for a text that is no parameter's name, and isn't the empty one between two `&`.
-fn is_unknown(name: &str) -> bool {
-    !name.is_empty() && !is_parameter(name)
-}
-
 /// Returns which parameter of a query is refused, and what it takes.
 pub fn query_advice(fault: QueryFault) -> &'static str {
     match fault {
         QueryFault::Memory => "There is no memory for the query.",
         QueryFault::Unknown => {
-            "The parameters are url, key, matchType, from, to, filter, is, isnot, has, hasnot, limit, resumeKey, \
+            "A & in a URL is written as %26. The parameters are url, key, matchType, from, to, filter, is, isnot, has, hasnot, limit, resumeKey, \
              showResumeKey, fl, output and collapse. warcdx-gateway has others too."
         }
         QueryFault::RepeatedParameter => {
-            "A parameter is given twice. Only filter, is, isnot, has and hasnot may be repeated."
+            "Only filter, is, isnot, has and hasnot may be given more than once."
         }
         QueryFault::BadMatch => "matchType is exact, prefix, host or domain.",
         QueryFault::BadStamp => "from and to are 1 to 14 digits, such as 2016 or 20160919172024.",
@@ -62,7 +47,8 @@ pub fn query_advice(fault: QueryFault) -> &'static str {
             "A condition is FIELD:TEXT, such as filter=statuscode:200, with a field that fl may have."
         }
         QueryFault::NotLiteral => {
-            "filter takes a literal text, without \\ ^ $ . | ? * + ( ) [ ] { }. For a part of a value, write has=FIELD:TEXT."
+            "filter takes a literal text, without \\ ^ $ . | ? * + ( ) [ ] { }. For a part of a value, \
+             write has=FIELD:TEXT, and for a choice of values a query for each."
         }
         QueryFault::BadLimit => "limit is a number from 1 to 1000000.",
         QueryFault::BadResume => "resumeKey is a key that a page has printed, as it was printed.",
@@ -117,7 +103,8 @@ fn is_unpacked<R: Runtime>(console: &Console<R>, name: &str) -> bool {
 fn member_advice(cause: Cause) -> &'static str {
     match cause {
         Cause::Version => {
-            "No record begins the member's text: its first line isn't WARC/1.0 or WARC/1.1."
+            "No record begins the member's text: its first line isn't WARC/1.0 or WARC/1.1. Convert an ARC file to a WARC \
+             file first."
         }
         Cause::ShortHead | Cause::ShortBlock | Cause::Closing => {
             "The member ends within its record. If the record goes on in the next member, pack the file again: \
@@ -140,7 +127,7 @@ fn no_archive_advice(kind: FileKind) -> &'static str {
         }
         FileKind::Arc => "It is an ARC file: convert it to a WARC file first.",
         FileKind::Cdx => "It is a CDX file: warcdx-cdx converts it to an index.",
-        FileKind::ByteOrderMark => "It begins with a byte order mark: remove its first 3 bytes.",
+        FileKind::ByteOrderMark => BYTE_ORDER_MARK,
         FileKind::Index => "It seems to be an index: warcdx query reads indexes.",
         FileKind::Markup => "It seems to be an HTML or XML file, and not a WARC file.",
         FileKind::Warc | FileKind::Other => cause_advice(Cause::Version),
@@ -174,7 +161,9 @@ fn cause_advice(cause: Cause) -> &'static str {
         Cause::TooFar => "The record would end at 2^63 bytes or more.",
         Cause::NoMember => "No member of gzip begins there: its first bytes aren't 1F 8B.",
         Cause::BadMember => "The member of gzip there is damaged, or was not written by gzip.",
-        Cause::CutMember => "The archive ends within a member of gzip.",
+        Cause::CutMember => {
+            "The archive ends within a member of gzip: copy it again, or wait until its crawler has closed it."
+        }
         Cause::SeveralRecords => PACK_AGAIN,
     }
 }
@@ -191,7 +180,9 @@ pub fn index_advice<R: Runtime>(
         IndexFault::DuplicateName => Some(
             "Another archive has this file name: rename one of them.",
         ),
-        IndexFault::NoRecord => Some("No record begins at this offset, or it has another length."),
+        IndexFault::NoRecord => Some(
+            "No record begins at this offset, or it has another length: list prints the offsets.",
+        ),
         IndexFault::Memory | IndexFault::Write => None,
     }
 }
@@ -215,6 +206,7 @@ fn no_index_advice(kind: FileKind) -> &'static str {
         FileKind::Warc => "It is a WARC file: warcdx index makes an index of it.",
         FileKind::Cdx => "It is a CDX file: warcdx-cdx converts it to an index.",
         FileKind::Markup => "It seems to be an HTML or XML file, and not an index.",
+        FileKind::ByteOrderMark => BYTE_ORDER_MARK,
         _ => BAD_LINE,
     }
 }
@@ -222,9 +214,7 @@ fn no_index_advice(kind: FileKind) -> &'static str {
 /// Returns why an index isn't in order, and what to do.
 fn order_advice(kind: FileKind) -> &'static str {
     match kind {
-        FileKind::ByteOrderMark => {
-            "The index begins with a byte order mark: remove its first 3 bytes."
-        }
+        FileKind::ByteOrderMark => BYTE_ORDER_MARK,
         _ => "The index isn't in order: LC_ALL=C sort puts its lines in order.",
     }
 }

@@ -3,11 +3,10 @@ ghost use Rattle.std.specs.Prelude.{◌≡◌};
 ghost use Rattle.outcomes.specs.Outcome.{outcome_of};
 ghost use Rattle.outcomes.specs.Outcome.{answered_outcome};
 
-use crate::advice::{
-    answer_advice, index_advice, is_address, is_plain, query_advice, unknown_parameter,
-};
+use crate::advice::{answer_advice, index_advice, is_address, is_plain, query_advice};
 use crate::console::Console;
 use crate::outcome::{Outcome, outcome_of};
+use crate::refused_part::{RefusedPart, refused_part};
 use index_core::IndexFault;
 use query_core::{AnswerFault, QueryFault};
 use scan_core::ScanFault;
@@ -60,22 +59,23 @@ fn say_query_fault<R: Runtime>(console: &Console<R>, fault: QueryFault) {
     }
 }
 
-/// Reports why a query of this text is refused, with what isn't the name of a parameter.
+/// Reports why a query of this text is refused, with the part that is at fault.
 pub fn say_refusal<R: Runtime>(console: &Console<R>, text: &str, fault: QueryFault) {
-    match unknown_parameter(text) {
-        Some(name) if fault == QueryFault::Unknown => say_unknown(console, name, fault),
-        _ => say_query_fault(console, fault),
+    match refused_part(text, fault) {
+        Some(part) => say_part(console, part, fault),
+        None => say_query_fault(console, fault),
     }
 }
 
-/// Reports that a query has a name that isn't that of a parameter.
-fn say_unknown<R: Runtime>(console: &Console<R>, name: &str, fault: QueryFault) {
+/// Reports that a part of a query is at fault.
+fn say_part<R: Runtime>(console: &Console<R>, part: RefusedPart<'_>, fault: QueryFault) {
     let program = console.program();
     let (cause, advice) = (fault.name(), query_advice(fault));
+    let (name, what) = (part.name, part.what);
     let _ = eprintln!(console.rt; "{program}: query: {cause}");
     let _ = if is_plain(name) {
-        eprintln!(console.rt; "  '{name}' isn't a parameter. {advice}")
-    } else if is_address(name) {
+        eprintln!(console.rt; "  '{name}' {what}. {advice}")
+    } else if fault == QueryFault::Unknown && is_address(name) {
         eprintln!(console.rt;
             "  A query precedes the indexes, and a URL in it is written as url=example.com. {advice}"
         )

@@ -37,7 +37,7 @@ With more than one archive, a line NAME: precedes each listing.
 Examples:
   warcdx list crawl.warc
   warcdx list crawl-1.warc crawl-2.warc
-  gunzip -c crawl.warc.gz | warcdx list -
+  ssh host cat crawl.warc | warcdx list -
 
 Exit status:
   0  everything was read
@@ -73,7 +73,7 @@ With more than one archive, a line NAME: precedes the lines of each.
 Examples:
   warcdx verify crawl.warc
   warcdx verify crawl-1.warc crawl-2.warc
-  gunzip -c crawl.warc.gz | warcdx verify -
+  ssh host cat crawl.warc | warcdx verify -
 
 Exit status:
   0  everything was read, and no digest differs
@@ -122,7 +122,6 @@ Examples:
   warcdx index crawl.warc > crawl.cdxj
   warcdx index crawl-1.warc crawl-2.warc > crawl.cdxj
   warcdx index --types response,metadata crawl.warc > crawl.cdxj
-  gunzip --keep crawl.warc.gz && warcdx index crawl.warc > crawl.cdxj
   ssh host cat crawl.warc | warcdx index --name crawl.warc - > crawl.cdxj
 
 Exit status:
@@ -162,7 +161,7 @@ Examples:
   warcdx get 0 crawl.warc
   warcdx get 4096 crawl.warc > record.warc
   warcdx get --length 1042 4096 crawl.warc
-  gunzip -c crawl.warc.gz | warcdx get 4096 -
+  ssh host cat crawl.warc | warcdx get 4096 -
 
 Exit status:
   0  the record was written
@@ -204,7 +203,7 @@ without --name.
 Examples:
   warcdx scan 100 'url=example.com/*' crawl-1.warc crawl-2.warc
   warcdx scan --types metadata 100 'url=example.com/*' crawl.warc
-  gunzip -c crawl.warc.gz | warcdx scan 1000 'url=*.example.com' -
+  ssh host cat crawl.warc | warcdx scan 1000 'url=*.example.com' -
 
 Exit status:
   0  the captures were written

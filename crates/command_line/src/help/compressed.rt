@@ -24,6 +24,8 @@ Examples:
   warcdx-gz get --length 1042 4096 crawl.warc.gz > record.warc
   warcdx-gz scan 100 'url=example.com/*' crawl-1.warc.gz crawl-2.warc
 
+'warcdx --help' names the other commands.
+
 Exit status:
   0  success, and no digest differs; or help was printed
   1  an archive is damaged, a digest differs, an archive's file name or a record

@@ -1,0 +1,106 @@
+//! Which part of a query text is refused, for messages.
+use cdxj_core::field_named;
+use query_core::QueryFault;
+use query_text::is_parameter;
+
+/// A part of a query text, and what it is or isn't.
+#[derive(Clone, Copy)]
+pub struct RefusedPart<'a> {
+    pub name: &'a str,
+    pub what: &'static str,
+}
+
+/// Returns the part of the text for which a query is refused, if the fault is of one that can be named.
+pub fn refused_part(text: &str, fault: QueryFault) -> Option<RefusedPart<'_>> {
+    match fault {
+        QueryFault::Unknown => part(unknown_parameter(text), "isn't a parameter"),
+        QueryFault::RepeatedParameter => part(repeated_parameter(text), "is given twice"),
+        QueryFault::BadField => part(unknown_field(text), "isn't a field"),
+        QueryFault::BadFilter => part(unknown_condition(text), "isn't a field"),
+        _ => None,
+    }
+}
+
+/// Returns `true` if an argument that isn't the query seems to be a part of one.
+pub fn is_parameter_with_value(argument: &str) -> bool {
+    argument.contains('=') && is_parameter(parameter_name(argument))
+}
+
+fn part<'a>(name: Option<&'a str>, what: &'static str) -> Option<RefusedPart<'a>> {
+    match name {
+        Some(name) => Some(RefusedPart { name, what }),
+        None => None,
+    }
+}
+
+fn unknown_parameter(text: &str) -> Option<&str> {
+    text.split('&')
+        .map(parameter_name)
+        .find(|name| is_unknown(name))
+}
+
+/// Returns the first name of a parameter that stands twice, and may not.
+fn repeated_parameter(text: &str) -> Option<&str> {
+    text.split('&')
+        .map(parameter_name)
+        .find(|name| !is_condition(name) && is_repeated(text, name))
+}
+
+/// Returns the first name in the list of fields that is none.
+fn unknown_field(text: &str) -> Option<&str> {
+    text.split('&')
+        .filter(|piece| parameter_name(piece) == "fl")
+        .flat_map(|piece| parameter_value(piece).split(','))
+        .find(|name| !is_field(name))
+}
+
+/// Returns the first text that stands in the place of a condition's field, and is none.
+fn unknown_condition(text: &str) -> Option<&str> {
+    text.split('&')
+        .filter(|piece| is_condition(parameter_name(piece)))
+        .map(condition_field)
+        .find(|name| !is_field(name))
+}
+
+fn parameter_name(piece: &str) -> &str {
+    before(piece, '=')
+}
+
+fn parameter_value(piece: &str) -> &str {
+    match piece.split_once('=') {
+        Some((_name, value)) => value,
+        None => "",
+    }
+}
+
+fn condition_field(piece: &str) -> &str {
+    let condition = parameter_value(piece);
+    before(condition.strip_prefix('!').unwrap_or(condition), ':')
+}
+
+fn before(text: &str, separator: char) -> &str {
+    match text.split_once(separator) {
+        Some((first, _rest)) => first,
+        None => text,
+    }
+}
+
+/// Returns `true` for a text that is no parameter's name, and isn't the empty one between two `&`.
+fn is_unknown(name: &str) -> bool {
+    !name.is_empty() && !is_parameter(name)
+}
+
+fn is_repeated(text: &str, name: &str) -> bool {
+    text.split('&')
+        .filter(|piece| parameter_name(piece) == name)
+        .count()
+        > 1
+}
+
+fn is_condition(name: &str) -> bool {
+    matches!(name, "filter" | "is" | "isnot" | "has" | "hasnot")
+}
+
+fn is_field(name: &str) -> bool {
+    field_named(name).is_some()
+}
