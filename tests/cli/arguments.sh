@@ -24,7 +24,7 @@ tipped() { # WORD TIP
 }
 
 file_first() { # WORD
-    tipped "$1" "a command precedes the files, as in 'warcdx index FILE'"
+    tipped "$1" "a command precedes the files, as in 'index FILE'"
 }
 
 negative() { # OPTION

@@ -348,7 +348,7 @@ advises "why: a byte order mark"    "It begins with a byte order mark: remove it
 advises "why: a folder"             "It is a folder: warcdx-update indexes the archives of a folder."   3 index folder
 advises "why: a cut archive"        "The archive ends within a record's header."                        1 index torn.warc
 advises "why: a file name twice"    "Another archive has this file name: rename one of them."           1 index r.warc folder/r.warc
-advises "why: no record"            "No record begins at this offset, or it has another length."        1 get 1 r.warc
+advises "why: no record"            "No record begins at this offset, or it has another length: list prints the offsets." 1 get 1 r.warc
 advises "why: a folder as an index" "It is a folder."                                                   3 check folder
 advises "why: an index of gzip"     "It is compressed by gzip: decompress it first."                    1 check sorted.cdxj.gz
 advises "why: an index of zstd"     "It is compressed by zstd: decompress it first."                    1 check r.warc.zst
@@ -356,22 +356,34 @@ advises "why: HTML as an index"     "It seems to be an HTML or XML file, and not
 advises "why: a bad line"           "The line that begins there isn't one of a CDXJ index."             1 check forged
 advises "why: a WARC file as an index" "It is a WARC file: warcdx index makes an index of it."          1 check r.warc
 advises "why: a CDX file as an index" "It is a CDX file: warcdx-cdx converts it to an index."           1 query url=a crawl.cdx
-advises "why: a byte order mark before an index" "The index begins with a byte order mark: remove its first 3 bytes." 1 check marked.cdxj
+advises "why: a byte order mark before an index" "It begins with a byte order mark: remove its first 3 bytes." 1 check marked.cdxj
 advises "why: a falling index"      "The index isn't in order: LC_ALL=C sort puts its lines in order."  1 check falling.cdxj
 advises "why: 1,025 indexes"        "At most 1024 files are taken: merge the indexes of some of them first." 1 merge "${too_many[@]}"
-advises "why: an unknown parameter" "'page' isn't a parameter. The parameters are url, key, matchType, from, to, filter, is, isnot, has, hasnot, \
-limit, resumeKey, showResumeKey, fl, output and collapse. warcdx-gateway has others too." 1 query "url=a&page=0" sorted.cdxj
+advises "why: an unknown parameter" "'page' isn't a parameter. A & in a URL is written as %26. The parameters are url, key, matchType, from, to, filter, is, isnot, \
+has, hasnot, limit, resumeKey, showResumeKey, fl, output and collapse. warcdx-gateway has others too." 1 query "url=a&page=0" sorted.cdxj
 for query in "url=a&%70age=0" $'url=a&x\nwarcdx: y: fault 0 Read=1'; do
-    advises "why: $(head --lines=1 <<< "$query")" "The parameters are url, key, matchType, from, to, filter, is, isnot, has, hasnot, limit, resumeKey, \
-showResumeKey, fl, output and collapse. warcdx-gateway has others too." 1 query "$query" sorted.cdxj
+    advises "why: $(head --lines=1 <<< "$query")" "A & in a URL is written as %26. The parameters are url, key, matchType, from, to, filter, is, isnot, has, hasnot, limit, \
+resumeKey, showResumeKey, fl, output and collapse. warcdx-gateway has others too." 1 query "$query" sorted.cdxj
 done
 for query in http://example.com/ sorted.cdxj; do
-    advises "why: $query" "A query precedes the indexes, and a URL in it is written as url=example.com. The parameters are url, key, matchType, from, to, \
+    advises "why: $query" "A query precedes the indexes, and a URL in it is written as url=example.com. A & in a URL is written as %26. The parameters are url, key, matchType, from, to, \
 filter, is, isnot, has, hasnot, limit, resumeKey, showResumeKey, fl, output and collapse. warcdx-gateway has others too." 1 query "$query" sorted.cdxj
 done
 advises "why: standard input as an index" "An index is a file, because it is searched: write what a pipe has to a file first." 3 query url=a -
-advises "why: a pattern" "filter takes a literal text, without \\ ^ \$ . | ? * + ( ) [ ] { }. For a part of a value, write has=FIELD:TEXT." \
+advises "why: a pattern" "filter takes a literal text, without \\ ^ \$ . | ? * + ( ) [ ] { }. For a part of a value, write has=FIELD:TEXT, and for a \
+choice of values a query for each." \
     1 query "url=a&filter=statuscode:2.." sorted.cdxj
+advises "why: a parameter twice"    "'limit' is given twice. Only filter, is, isnot, has and hasnot may be given more than once." 1 query "url=a&limit=1&limit=1" sorted.cdxj
+advises "why: a condition and a parameter twice" "'limit' is given twice. Only filter, is, isnot, has and hasnot may be given more than once." \
+    1 query "url=a&is=urlkey:a&limit=1&is=urlkey:a&limit=1" sorted.cdxj
+advises "why: an unknown field"     "'urlkeys' isn't a field. fl is a list, with ',' between, of urlkey, timestamp, original, mimetype, statuscode, digest, \
+length, offset and filename." 1 query "url=a&fl=urlkey,urlkeys" sorted.cdxj
+advises "why: no field"             "fl is a list, with ',' between, of urlkey, timestamp, original, mimetype, statuscode, digest, length, offset and filename." \
+    1 query "url=a&fl=ur%6cke" sorted.cdxj
+condition="A condition is FIELD:TEXT, such as filter=statuscode:200, with a field that fl may have."
+advises "why: a condition on no field" "'status' isn't a field. $condition"                              1 query "url=a&isnot=urlkey:x&filter=!status:200" sorted.cdxj
+advises "why: a condition without a colon" "$condition"                                                 1 query "url=a&has=urlkey" sorted.cdxj
+advises "why: a query in two arguments" "A query is one argument, with & between its parameters."       3 query url=a fl=urlkey
 advises "why: no url"               "A query has a url or a key, such as url=example.com."              1 query "" sorted.cdxj
 
 flush="warcdx: cannot flush"
@@ -443,11 +455,11 @@ cat r.warc r.warc | gzip --no-name > whole.warc.gz
 { cat r.warc.gz && head --bytes=-1 r.warc.gz; } > cut.warc.gz
 divided="The member ends within its record. If the record goes on in the next member, pack the file again: gunzip it, then warcio recompress IN.warc OUT.warc.gz."
 whole="Each record has to be a member of gzip of its own: warcio recompress IN.warc.gz OUT.warc.gz packs the file so."
-advises "why: a page in a member"   "No record begins the member's text: its first line isn't WARC/1.0 or WARC/1.1." 1 index page.html.gz
+advises "why: a page in a member"   "No record begins the member's text: its first line isn't WARC/1.0 or WARC/1.1. Convert an ARC file to a WARC file first." 1 index page.html.gz
 advises "why: a record in two members" "$divided"                                                       1 index divided.warc.gz
 advises "why: records in one member" "$whole"                                                           1 index whole.warc.gz
 advises "why: a line behind a member" "No member of gzip begins there: its first bytes aren't 1F 8B."   1 index longer.warc.gz
-advises "why: a cut member"         "The archive ends within a member of gzip."                         1 index cut.warc.gz
+advises "why: a cut member"         "The archive ends within a member of gzip: copy it again, or wait until its crawler has closed it." 1 index cut.warc.gz
 advises "why: not an archive of gzip" "No record begins there: its first line isn't WARC/1.0 or WARC/1.1." 1 index forged
 advises "why: a plain archive that is cut" "The archive ends within a record's header."                 1 index torn.warc
 end_script
