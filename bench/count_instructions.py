@@ -49,7 +49,12 @@ def instructions(program: pathlib.Path, command: Sequence[str], files: Sequence[
     """Returns the instructions of the user's code in one run."""
     callgrind = ("valgrind", "--tool=callgrind", "--callgrind-out-file=/dev/null")
     run = subprocess.run(
-        [*callgrind, program, *command, *files], stdin=subprocess.DEVNULL, stdout=subprocess.DEVNULL, stderr=subprocess.PIPE, text=True, check=True
+        [*callgrind, program, *command, *files],
+        stdin=subprocess.DEVNULL,
+        stdout=subprocess.DEVNULL,
+        stderr=subprocess.PIPE,
+        text=True,
+        check=True,
     )
     found = COLLECTED.search(run.stderr)
     if found is None:

@@ -21,7 +21,9 @@ WARC-Payload-Digest: sha1:VGMT4NSHA2AWVOR6EVYXQUGCNSONBWE5
 Content-Type: application/http;msgtype=response
 Content-Length: %d
 
-""".replace("\n", "\r\n")
+""".replace(
+    "\n", "\r\n"
+)
 CLOSING = b"\r\n\r\n"
 
 
@@ -32,9 +34,7 @@ class Archive:
         choice = random.Random(record_length)
         block = record_length - len(head(0, [], 0))
         spread = record_length // 10
-        records = [
-            record(choice, choice.randint(block - spread, block + spread)) for _ in range(BATCH // record_length)
-        ]
+        records = [record(choice, choice.randint(block - spread, block + spread)) for _ in range(BATCH // record_length)]
         self.pieces = [b"".join(records)] * batches
         self.lengths = [len(each) for each in records] * batches
 

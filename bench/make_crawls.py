@@ -20,7 +20,9 @@ WARC-Block-Digest: sha1:%s
 Content-Type: application/http;msgtype=response
 Content-Length: %d
 
-""".replace("\n", "\r\n")
+""".replace(
+    "\n", "\r\n"
+)
 HTTP_HEAD = """\
 HTTP/1.1 200 OK
 Server: Apache
@@ -29,7 +31,9 @@ Content-Type: text/html; charset=utf-8
 Content-Length: %d
 Last-Modified: Mon, 02 May 2016 03:04:05 GMT
 
-""".replace("\n", "\r\n")
+""".replace(
+    "\n", "\r\n"
+)
 LINE = (
     "com,example)/articles/%07d/index.html 20160919172024 "
     '{"url": "http://www.example.com/articles/%07d/index.html", "mime": "text/html", "status": "200", "digest": "%s", '

@@ -24,14 +24,18 @@ ROUNDS = 7
 STARTS = 100
 MANY = 5000  # captures, so that what is held once doesn't matter
 BY_ZLIB = pathlib.Path(__file__).with_name("unpack_by_zlib.c")
-PAGES = (("pages of 2 kB", 40_000, 150, 0.74), ("pages of 20 kB", 6000, 1700, 0.66), ("pages of 200 kB", 600, 17_000, 0.8))  # and goals over zlib
+PAGES = (
+    ("pages of 2 kB", 40_000, 150, 0.74),
+    ("pages of 20 kB", 6000, 1700, 0.66),
+    ("pages of 200 kB", 600, 17_000, 0.8),
+)  # and goals over zlib
 RECORD = (
     b"WARC/1.0\r\nWARC-Type: response\r\nWARC-Record-ID: <urn:x>\r\nWARC-Date: 2016-01-01T00:00:00Z\r\n"
     b"WARC-Target-URI: http://example.com/%d\r\nWARC-Payload-Digest: sha1:3I42H3S6NNFQ2MSVX7XZKYAYSCX5QBYJ\r\n"
     b"Content-Type: application/http\r\nContent-Length: %d\r\n\r\nHTTP/1.1 200 OK\r\nContent-Type: text/html\r\n\r\n%s\r\n\r\n"
 )
 HTTP_HEAD = 44  # bytes
-WORDS = [f"<p>word{number} " .encode() for number in range(5000)]
+WORDS = [f"<p>word{number} ".encode() for number in range(5000)]
 
 
 def make(path: pathlib.Path, records: int, words: int) -> None:

@@ -57,16 +57,19 @@ def main() -> int:
                 "check by hand": lambda: run_time([hand, "check", folder / "whole"]),
             }
 
-        times = least_times(runs | {
-            "sort -m, 4 files": lambda: run_time([*SORT, "-m", *parts[4]]),
-            "merge, 4 files": lambda: run_time([*merging, *parts[4]]),
-            "sort -m, 1,024 files": lambda: run_time([*SORT, "-m", "--batch-size=1024", *parts[1024]]),
-            "merge, 64 files": lambda: run_time([*merging, *parts[64]]),
-            "merge, 1,024 files": lambda: run_time([*merging, *parts[1024]]),
-            "merge, 4 files, half the lines": lambda: run_time([*merging, *half]),
-            "sort -c": lambda: run_time([*SORT, "-c", folder / "whole"]),
-            "check": lambda: run_time([*checking, folder / "whole"]),
-        })
+        times = least_times(
+            runs
+            | {
+                "sort -m, 4 files": lambda: run_time([*SORT, "-m", *parts[4]]),
+                "merge, 4 files": lambda: run_time([*merging, *parts[4]]),
+                "sort -m, 1,024 files": lambda: run_time([*SORT, "-m", "--batch-size=1024", *parts[1024]]),
+                "merge, 64 files": lambda: run_time([*merging, *parts[64]]),
+                "merge, 1,024 files": lambda: run_time([*merging, *parts[1024]]),
+                "merge, 4 files, half the lines": lambda: run_time([*merging, *half]),
+                "sort -c": lambda: run_time([*SORT, "-c", folder / "whole"]),
+                "check": lambda: run_time([*checking, folder / "whole"]),
+            }
+        )
         by_hand = {name.replace(" by hand", ""): time for name, time in times.items() if "by hand" in name}
         figures = [
             Figure("merge of 4 over sort -m", times["merge, 4 files"] / times["sort -m, 4 files"], 1.7),

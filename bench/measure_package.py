@@ -104,7 +104,10 @@ def records_of(collection: Collection) -> list[Record]:
 def least_start(code: str) -> float:
     """The least processor time of Python that runs a text."""
     environment = {**os.environ, "PYTHONPATH": str(PACKAGE), "PYTHONDONTWRITEBYTECODE": ""}
-    return min(run_time(("/usr/bin/env", *(f"{name}={value}" for name, value in environment.items()), sys.executable, "-c", code)) for _ in range(STARTS))
+    return min(
+        run_time(("/usr/bin/env", *(f"{name}={value}" for name, value in environment.items()), sys.executable, "-c", code))
+        for _ in range(STARTS)
+    )
 
 
 def start_time(archive: Archive) -> float:
@@ -122,7 +125,9 @@ def main() -> int:
         for path in (packed, plain):
             with open(f"{path}.cdxj", "wb") as output:
                 open_archive(path, program=program).index(output)
-        with Collection(f"{packed}.cdxj", folder, program=program) as members, Collection(f"{plain}.cdxj", folder, program=program) as texts:
+        with Collection(f"{packed}.cdxj", folder, program=program) as members, Collection(
+            f"{plain}.cdxj", folder, program=program
+        ) as texts:
             captures, plain_captures = list(members.captures()), list(texts.captures())
             times = least_times(
                 {

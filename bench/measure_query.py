@@ -95,22 +95,24 @@ def main() -> int:
         print(f"{len(pages)} pages of one domain")
 
         query = [program, "query"]
-        milliseconds = least_times({
-            "one file": lambda: small_time(program, queries, [whole]),
-            "64 files": lambda: small_time(program, queries, parts[64]),
-            "a tenth": lambda: small_time(program, in_tenth, [tenth]),
-        })
-        page_times = least_times({
-            number: lambda page=page: run_time([*query, page, hosts]) for number, page in enumerate(pages)
-        })
-        times = least_times({
-            "merge, 4 files": lambda: run_time([program, "merge", *parts[4]]),
-            "all as text": lambda: run_time([*query, ALL, *parts[4]]),
-            "all as cdxj": lambda: run_time([*query, ALL + "&output=cdxj", *parts[4]]),
-            "all as json": lambda: run_time([*query, ALL + "&output=json", *parts[4]]),
-            "all by key": lambda: run_time([*query, ALL + "&collapse=urlkey", *parts[4]]),
-            "all by time": lambda: run_time([*query, ALL + "&collapse=timestamp", *parts[4]]),
-        })
+        milliseconds = least_times(
+            {
+                "one file": lambda: small_time(program, queries, [whole]),
+                "64 files": lambda: small_time(program, queries, parts[64]),
+                "a tenth": lambda: small_time(program, in_tenth, [tenth]),
+            }
+        )
+        page_times = least_times({number: lambda page=page: run_time([*query, page, hosts]) for number, page in enumerate(pages)})
+        times = least_times(
+            {
+                "merge, 4 files": lambda: run_time([program, "merge", *parts[4]]),
+                "all as text": lambda: run_time([*query, ALL, *parts[4]]),
+                "all as cdxj": lambda: run_time([*query, ALL + "&output=cdxj", *parts[4]]),
+                "all as json": lambda: run_time([*query, ALL + "&output=json", *parts[4]]),
+                "all by key": lambda: run_time([*query, ALL + "&collapse=urlkey", *parts[4]]),
+                "all by time": lambda: run_time([*query, ALL + "&collapse=timestamp", *parts[4]]),
+            }
+        )
         merge = times["merge, 4 files"]
         figures = [
             Figure("exact query, one file", milliseconds["one file"], 3, "ms"),

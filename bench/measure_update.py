@@ -198,7 +198,13 @@ def main() -> int:
 
 
 def add(
-    what: str, found: dict[str, Cost], whole: Cost, times: dict[str, float], figures: list[Figure], written: float, processor: Optional[float]
+    what: str,
+    found: dict[str, Cost],
+    whole: Cost,
+    times: dict[str, float],
+    figures: list[Figure],
+    written: float,
+    processor: Optional[float],
 ) -> None:
     """Adds the figures of a command, over what the index of all takes, and over what the earlier command has taken."""
     for title, cost in found.items():

@@ -36,10 +36,7 @@ RESOURCE = record(
     ],
     b"abc",
 )
-SAMPLES = {
-    "response.warc": RESPONSE,
-    "damaged.warc": RESPONSE + RESOURCE + RESPONSE[:231],
-}
+SAMPLES = {"response.warc": RESPONSE, "damaged.warc": RESPONSE + RESOURCE + RESPONSE[:231]}
 
 
 def records(archive):

@@ -145,7 +145,9 @@ def room_of(crate: Crate) -> Iterator[Path]:
             for part in ("rlib", "incremental") if name == crate.name else ("rlib",):
                 if (CRATES / name / "out" / part).is_dir():
                     shutil.copytree(CRATES / name / "out" / part, room / "crates" / name / "out" / part, copy_function=os.link)
-        lines = (line for line in (ROOT / "crates.txt").read_text().splitlines() if line.partition(":")[0].strip() in {crate.name, *crate.below})
+        lines = (
+            line for line in (ROOT / "crates.txt").read_text().splitlines() if line.partition(":")[0].strip() in {crate.name, *crate.below}
+        )
         (room / "crates.txt").write_text("\n".join([*lines, ""]))
         yield room
     finally:

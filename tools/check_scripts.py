@@ -35,7 +35,9 @@ WITHOUT_USAGE = ("warcdx", "warcdx-gz", ".ci/run", "samples/make.py")
 
 def scripts() -> Iterator[tuple[pathlib.Path, str]]:
     """Yields each script with its language: the first word of what runs it, or the ending of its name."""
-    listed = subprocess.run(("git", "ls-files", "-z", "--cached", "--others", "--exclude-standard"), cwd=ROOT, stdout=subprocess.PIPE, check=True)
+    listed = subprocess.run(
+        ("git", "ls-files", "-z", "--cached", "--others", "--exclude-standard"), cwd=ROOT, stdout=subprocess.PIPE, check=True
+    )
     for name in sorted(set(listed.stdout.decode().split("\0"))):
         path = ROOT / name
         if not name or name.startswith("crates/") or not path.is_file():

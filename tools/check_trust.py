@@ -74,7 +74,14 @@ def check_axioms(report: Report) -> None:
     """Compares the table with what the prover lists."""
     listed = sorted(name for functions, _ in rows() for name in functions if name not in BELOW)
     for crate in PROGRAMS:
-        done = subprocess.run(("rt", "check", "--list-axioms"), cwd=CRATES / crate, stdout=subprocess.PIPE, stderr=subprocess.STDOUT, text=True, errors="replace")
+        done = subprocess.run(
+            ("rt", "check", "--list-axioms"),
+            cwd=CRATES / crate,
+            stdout=subprocess.PIPE,
+            stderr=subprocess.STDOUT,
+            text=True,
+            errors="replace",
+        )
         compare(report, f"{crate}: axioms, by rt check --list-axioms", listed, sorted(REACHED.findall(done.stdout)))
 
 

@@ -35,7 +35,10 @@ from definitions import CLAUSE, CRATES, ROOT, Item, hash_of, reached_from, scope
 from program import Report, parser_of
 
 PAGES = ("docs/proof/STATEMENT.md", "docs/proof/CONTRACTS.md", "docs/proof/TRUST.md")
-PART = re.compile(r"(?P<begin><!-- (?P<kind>definition|call|laws|contracts|file|kit|counts)(?P<words>[^>]*) -->\n)(?P<text>.*?)(?P<end><!-- end -->)", re.DOTALL)
+PART = re.compile(
+    r"(?P<begin><!-- (?P<kind>definition|call|laws|contracts|file|kit|counts)(?P<words>[^>]*) -->\n)(?P<text>.*?)(?P<end><!-- end -->)",
+    re.DOTALL,
+)
 FUNCTION = re.compile(r"^ *(?:pub(?:\(\w+\))? )?fn ", re.MULTILINE)
 TEST = re.compile(r"^ *#\[test\]", re.MULTILINE)
 PUBLIC_LAW = re.compile(r"^pub fn (\w+)", re.MULTILINE)
@@ -82,7 +85,12 @@ class Page:
         new = [item for item in found if item not in self._listed]
         self._listed.update(new)
         listed = block("\n".join(row_of(item) for item in new)) if new else ""
-        return "\n".join((contract_of(call, f"{file_of(call)}:{call.line}"), f"It reaches {count_of(len(found), len(new))}", "", listed)).rstrip() + "\n"
+        return (
+            "\n".join(
+                (contract_of(call, f"{file_of(call)}:{call.line}"), f"It reaches {count_of(len(found), len(new))}", "", listed)
+            ).rstrip()
+            + "\n"
+        )
 
     def _rows_of_kit(self) -> Iterator[str]:
         for module, names in sorted(self._of_kit.items()):
@@ -144,7 +152,9 @@ def contracts_by_crate() -> Iterator[str]:
     for crate in sorted(path.name for path in CRATES.iterdir()):
         items = [item for path in sorted((CRATES / crate / "src").rglob("*.rt")) for item in scope_of(path).items.values()]
         shown = {label_of(call) for call in calls if call.crate == crate}
-        stated = [item for item in items if (item.name in shown and CONTRACT.search(item.text)) or (item.name in types and SEEN.search(item.text))]
+        stated = [
+            item for item in items if (item.name in shown and CONTRACT.search(item.text)) or (item.name in types and SEEN.search(item.text))
+        ]
         chosen = [item for item in stated if (item.name, file_of(item)) not in boxed]
         if chosen:
             yield f"## {crate}\n"

@@ -49,9 +49,7 @@ def digest_of(payload: bytes) -> str:
     return "sha1:" + base64.b32encode(hashlib.sha1(payload).digest()).decode()
 
 
-def record(
-    kind: str, address: str, date: str, block: bytes, content_type: str, fields: Sequence[str] = ()
-) -> bytes:
+def record(kind: str, address: str, date: str, block: bytes, content_type: str, fields: Sequence[str] = ()) -> bytes:
     """Returns a record of WARC 1.1. Its block has a digest, unless the fields have one."""
     lines = [
         "WARC/1.1",
@@ -80,9 +78,7 @@ def response(
 ) -> bytes:
     """Returns a response record."""
     typed = [f"Content-Type: {content_type}"] if content_type is not None else []
-    head = "\r\n".join([f"HTTP/1.1 {status}", *typed, *http, "", ""]).encode(
-        errors="surrogateescape"
-    )
+    head = "\r\n".join([f"HTTP/1.1 {status}", *typed, *http, "", ""]).encode(errors="surrogateescape")
     return record("response", address, date, head + body, "application/http; msgtype=response",
                   [f"WARC-Payload-Digest: {digest_of(body)}", *fields])  # fmt: skip
 
@@ -93,14 +89,7 @@ def revisit(address: str, date: str, body: bytes, refers_to: str = "") -> bytes:
     fields = [f"WARC-Payload-Digest: {digest_of(body)}", f"WARC-Profile: {profile}"]
     if refers_to:
         fields += [f"WARC-Refers-To-Target-URI: {address}", f"WARC-Refers-To-Date: {refers_to}"]
-    return record(
-        "revisit",
-        address,
-        date,
-        b"HTTP/1.1 200 OK\r\n\r\n",
-        "application/http; msgtype=response",
-        fields,
-    )
+    return record("revisit", address, date, b"HTTP/1.1 200 OK\r\n\r\n", "application/http; msgtype=response", fields)
 
 
 def page(title: str, *paragraphs: str) -> bytes:
@@ -112,11 +101,7 @@ def page(title: str, *paragraphs: str) -> bytes:
 def bomb(start: bytes = b"") -> bytes:
     """Returns a member of gzip that unpacks to a start and 300 MB of zeros."""
     packer, zeros = zlib.compressobj(1, zlib.DEFLATED, 31), bytes(MEGABYTE)
-    return (
-        packer.compress(start)
-        + b"".join(packer.compress(zeros) for _ in range(300))
-        + packer.flush()
-    )
+    return packer.compress(start) + b"".join(packer.compress(zeros) for _ in range(300)) + packer.flush()
 
 
 class Archives:
@@ -161,23 +146,9 @@ class Archives:
                 members = json.loads(text)
                 self.lines[members["filename"], int(members["offset"])] = key, timestamp
 
-    def line(
-        self,
-        address: str,
-        stamp: str,
-        filename: str,
-        offset: int,
-        key: str = "com,example)/",
-        **more: str,
-    ) -> bytes:
+    def line(self, address: str, stamp: str, filename: str, offset: int, key: str = "com,example)/", **more: str) -> bytes:
         """Returns a line of an index, of any values."""
-        members = {
-            "url": address,
-            "mime": "text/html",
-            "status": "200",
-            "digest": "-",
-            "length": "1",
-        }
+        members = {"url": address, "mime": "text/html", "status": "200", "digest": "-", "length": "1"}
         members.update(offset=str(offset), filename=filename, **more)
         return f"{key} {stamp} {json.dumps(members)}\n".encode()
 
@@ -187,10 +158,7 @@ class Archives:
 
 def gateway_of(test: unittest.TestCase, settings: Settings) -> Gateway:
     """Returns a gateway over these settings, which is closed at the end of the test."""
-    collections = {
-        each.name: Collection(each, settings, Generation(each.indexes))
-        for each in settings.collections
-    }
+    collections = {each.name: Collection(each, settings, Generation(each.indexes)) for each in settings.collections}
     for each in collections.values():
         test.addCleanup(each.close)
     return Gateway(settings, collections, metrics(), Board(1024), Board(1024))
@@ -256,9 +224,7 @@ class Pages(unittest.TestCase):
         self.assertEqual([], faults_of(text))
         return text
 
-    def ask(
-        self, name: str, headers: Optional[dict[str, str]] = None, **query: object
-    ) -> TestResponse:
+    def ask(self, name: str, headers: Optional[dict[str, str]] = None, **query: object) -> TestResponse:
         given = {each.rstrip("_"): str(value) for each, value in query.items()}
         encoded = urlencode(given, errors="surrogateescape")
         return self.client.get(f"/crawl/browse/{name}?{encoded}", headers=headers)
@@ -301,14 +267,7 @@ class _Checked(HTMLParser):
         if tag not in _ELEMENTS:
             self.faults.append(f"<{tag}>")
         for name, value in attrs:
-            if name.startswith("on") or name in (
-                "style",
-                "srcdoc",
-                "http-equiv",
-                "target",
-                "formaction",
-                "ping",
-            ):
+            if name.startswith("on") or name in ("style", "srcdoc", "http-equiv", "target", "formaction", "ping"):
                 self.faults.append(f"{name}={value}")
             if name in ("href", "src", "action") and not _PAGES.fullmatch(value or ""):
                 self.faults.append(f"{name}={value}")
@@ -320,11 +279,7 @@ def faults_of(page: str) -> list[str]:
     checked.feed(page)
     checked.close()
     shown = re.sub(' value="[^"]*"', "", page)  # what a form gives back is as it was
-    return checked.faults + [
-        f"U+{ord(each):04X}"
-        for each in shown
-        if unicodedata.category(each) in ("Cc", "Cf") and each != "\n"
-    ]
+    return checked.faults + [f"U+{ord(each):04X}" for each in shown if unicodedata.category(each) in ("Cc", "Cf") and each != "\n"]
 
 
 def text_of(page: str) -> str:

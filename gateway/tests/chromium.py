@@ -81,11 +81,7 @@ class Tab:
     async def open(self, address: str) -> None:
         loader = (await self.send("Page.navigate", url=address))["loaderId"]
         loaded = {"loaderId": loader, "name": "load"}
-        await until(
-            lambda: any(
-                loaded.items() <= event.items() for event in self.events("Page.lifecycleEvent")
-            )
-        )
+        await until(lambda: any(loaded.items() <= event.items() for event in self.events("Page.lifecycleEvent")))
 
     async def _loading(self, command: Any) -> None:
         """Waits until a page is loaded that a command leads to."""
@@ -95,9 +91,7 @@ class Tab:
 
     async def evaluate(self, text: str) -> Any:
         """Returns the value of a text of JavaScript, in the page but not as a part of it."""
-        found = await self.send(
-            "Runtime.evaluate", expression=text, returnByValue=True, awaitPromise=True
-        )
+        found = await self.send("Runtime.evaluate", expression=text, returnByValue=True, awaitPromise=True)
         if "exceptionDetails" in found:
             raise Failed(str(found["exceptionDetails"]))
         return found["result"].get("value")
@@ -120,17 +114,8 @@ class Tab:
             await self.send("Input.dispatchMouseEvent", type=kind, x=place[0], y=place[1], **button)
 
     async def key(self, name: str, code: int, text: str = "") -> None:
-        await self.send(
-            "Input.dispatchKeyEvent",
-            type="keyDown",
-            key=name,
-            code=name,
-            windowsVirtualKeyCode=code,
-            text=text,
-        )
-        await self.send(
-            "Input.dispatchKeyEvent", type="keyUp", key=name, code=name, windowsVirtualKeyCode=code
-        )
+        await self.send("Input.dispatchKeyEvent", type="keyDown", key=name, code=name, windowsVirtualKeyCode=code, text=text)
+        await self.send("Input.dispatchKeyEvent", type="keyUp", key=name, code=name, windowsVirtualKeyCode=code)
 
     async def tab(self) -> str:
         """Presses the tab key, and returns the name of what has the focus then."""
@@ -148,17 +133,8 @@ class Tab:
 
     async def window(self, width: int, height: int, scheme: str = "light") -> None:
         """Sets the size of the window in pixels, and the scheme of colours."""
-        await self.send(
-            "Emulation.setDeviceMetricsOverride",
-            width=width,
-            height=height,
-            deviceScaleFactor=1,
-            mobile=False,
-        )
-        await self.send(
-            "Emulation.setEmulatedMedia",
-            features=[{"name": "prefers-color-scheme", "value": scheme}],
-        )
+        await self.send("Emulation.setDeviceMetricsOverride", width=width, height=height, deviceScaleFactor=1, mobile=False)
+        await self.send("Emulation.setEmulatedMedia", features=[{"name": "prefers-color-scheme", "value": scheme}])
 
     async def picture(self) -> bytes:
         """Returns a picture of the window, as PNG."""
@@ -182,9 +158,7 @@ class Tab:
             if event["targetInfo"]["type"] == "iframe"
         ]  # fmt: skip
         session = sessions[-1] if sessions else self._session
-        snapshot = await self._connection.send(
-            "DOMSnapshot.captureSnapshot", session, computedStyles=[]
-        )
+        snapshot = await self._connection.send("DOMSnapshot.captureSnapshot", session, computedStyles=[])
         document = snapshot["documents"][0 if sessions else 1]
         strings = snapshot["strings"]
         return [strings[number] for number in document["layout"]["text"] if number >= 0]
@@ -203,9 +177,7 @@ async def browser() -> AsyncIterator[Tab]:
     assert PROGRAM is not None, "chromium is missing"
     with tempfile.TemporaryDirectory(ignore_cleanup_errors=True) as folder:
         command = (PROGRAM, *_OPTIONS[:-1], f"--user-data-dir={folder}", _OPTIONS[-1])
-        process = subprocess.Popen(
-            command, stdin=subprocess.DEVNULL, stdout=subprocess.DEVNULL, stderr=subprocess.DEVNULL
-        )
+        process = subprocess.Popen(command, stdin=subprocess.DEVNULL, stdout=subprocess.DEVNULL, stderr=subprocess.DEVNULL)
         try:
             async with aiohttp.ClientSession() as client:
                 connection = await _connect(client, pathlib.Path(folder, "DevToolsActivePort"))
@@ -230,15 +202,11 @@ async def _connect(client: aiohttp.ClientSession, port_file: pathlib.Path) -> Co
 
 async def _new_tab(connection: Connection) -> Tab:
     target = (await connection.send("Target.createTarget", url="about:blank"))["targetId"]
-    session = (await connection.send("Target.attachToTarget", targetId=target, flatten=True))[
-        "sessionId"
-    ]
+    session = (await connection.send("Target.attachToTarget", targetId=target, flatten=True))["sessionId"]
     tab = Tab(connection, session)
     for domain in ("Page", "Runtime", "Network", "Log", "DOM", "Accessibility"):
         await tab.send(f"{domain}.enable")
     await tab.send("Page.setLifecycleEventsEnabled", enabled=True)
-    await tab.send(
-        "Target.setAutoAttach", autoAttach=True, waitForDebuggerOnStart=False, flatten=True
-    )
+    await tab.send("Target.setAutoAttach", autoAttach=True, waitForDebuggerOnStart=False, flatten=True)
     await tab.window(1100, 900)
     return tab

@@ -105,9 +105,7 @@ def main() -> int:
 def measure(server: support.Server, probes: int, pages: list[bytes], report: Report) -> None:
     attacks.probe(server, 50)
     alone = attacks.probe(server, probes)
-    report.add_ok(
-        f"alone: {attacks.at(alone, 0.5):.1f} ms, 99 % {attacks.at(alone, 0.99):.1f} ms (load {attacks.load()})"
-    )
+    report.add_ok(f"alone: {attacks.at(alone, 0.5):.1f} ms, 99 % {attacks.at(alone, 0.99):.1f} ms (load {attacks.load()})")
 
     def compare(name: str, answered: "attacks.Answered | None", times: list[float], may_be_busy: bool = True) -> None:
         late = attacks.at(times, 0.99) - attacks.at(alone, 0.99)

@@ -40,10 +40,7 @@ class Request(NamedTuple):
         """Returns the text of the query."""
         pairs = [("key", self.target), ("matchType", self.match)]
         pairs += [("from", self.first)] * bool(self.first) + [("to", self.last)] * bool(self.last)
-        pairs += [
-            ("filter", f"{'!' if negated else ''}{field}:{text}")
-            for field, text, negated in self.filters
-        ]
+        pairs += [("filter", f"{'!' if negated else ''}{field}:{text}") for field, text, negated in self.filters]
         pairs += [("collapse", field + (f":{n}" if n else "")) for field, n in self.collapses]
         if self.limit is not None:
             pairs.append(("limit", str(-self.limit if self.order == "last" else self.limit)))
@@ -119,10 +116,7 @@ def selected(request: Request, captures: list[Capture]) -> list[Capture]:
         if request.last and stamp[: len(request.last)] > request.last:
             continue
         shown = resolved(capture, captures) if request.resolves else capture
-        tests = (
-            bool(re.fullmatch(text, shown[field])) is not negated
-            for field, text, negated in request.filters
-        )
+        tests = (bool(re.fullmatch(text, shown[field])) is not negated for field, text, negated in request.filters)
         if all(tests):
             found.append(shown)
     if request.after is not None:
@@ -164,12 +158,7 @@ def pages_of(request: Request, captures: list[Capture]) -> tuple[int, dict[tuple
 
 
 def order_of(capture: Capture) -> tuple[bytes, str, bytes, int]:
-    return (
-        capture["urlkey"].encode(),
-        capture["timestamp"],
-        capture["filename"].encode(),
-        int(capture["offset"]),
-    )
+    return (capture["urlkey"].encode(), capture["timestamp"], capture["filename"].encode(), int(capture["offset"]))
 
 
 def answer(request: Request, captures: list[Capture]) -> str:

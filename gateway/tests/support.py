@@ -25,110 +25,17 @@ COMMAND = ROOT / "gateway/bin/warcdx-gateway"
 WAIT = 120  # seconds for what takes a few milliseconds, also on a busy machine
 # A rule of a program to which every file is an index in order.
 ALL_IN_ORDER = '[ "$1" != check ] || { shift; for file; do echo "$file 1"; done; exit; }'
-LINE = (
-    '%s %s {"url": "%s", "mime": "%s", "status": "%s", "digest": "%s", "length": "%d", "offset": "%d", '
-    '"filename": "%s"}\n'
-)
+LINE = '%s %s {"url": "%s", "mime": "%s", "status": "%s", "digest": "%s", "length": "%d", "offset": "%d", ' '"filename": "%s"}\n'
 CAPTURES = (
-    (
-        "com,example)/",
-        "20140101000000",
-        "http://example.com/",
-        "text/html",
-        "200",
-        "AAAA",
-        1000,
-        0,
-        "a.warc",
-    ),
-    (
-        "com,example)/",
-        "20150101000000",
-        "http://example.com/",
-        "text/html",
-        "200",
-        "AAAA",
-        1001,
-        1000,
-        "a.warc",
-    ),
-    (
-        "com,example)/",
-        "20160101000000",
-        "http://example.com/",
-        "warc/revisit",
-        "-",
-        "AAAA",
-        500,
-        2001,
-        "a.warc",
-    ),
-    (
-        "com,example)/",
-        "20160601000000",
-        "http://example.com/",
-        "text/html",
-        "404",
-        "BBBB",
-        700,
-        2501,
-        "a.warc",
-    ),
-    (
-        "com,example)/",
-        "20170101000000",
-        "https://example.com/",
-        "text/html",
-        "200",
-        "CCCC",
-        1100,
-        0,
-        "b.warc",
-    ),
-    (
-        "com,example)/a",
-        "20150101000000",
-        "http://example.com/a",
-        "text/plain",
-        "503",
-        "DDDD",
-        300,
-        1100,
-        "b.warc",
-    ),
-    (
-        "com,example)/b.png",
-        "20150101000000",
-        "http://example.com/b.png",
-        "image/png",
-        "200",
-        "EEEE",
-        400,
-        1400,
-        "b.warc",
-    ),
-    (
-        "com,example,sub)/",
-        "20160101000000",
-        "http://sub.example.com/",
-        "text/html",
-        "200",
-        "AAAA",
-        1000,
-        1800,
-        "b.warc",
-    ),
-    (
-        "org,example)/",
-        "20200101000000",
-        "http://example.org/",
-        "text/html",
-        "301",
-        "FFFF",
-        300,
-        2800,
-        "b.warc",
-    ),
+    ("com,example)/", "20140101000000", "http://example.com/", "text/html", "200", "AAAA", 1000, 0, "a.warc"),
+    ("com,example)/", "20150101000000", "http://example.com/", "text/html", "200", "AAAA", 1001, 1000, "a.warc"),
+    ("com,example)/", "20160101000000", "http://example.com/", "warc/revisit", "-", "AAAA", 500, 2001, "a.warc"),
+    ("com,example)/", "20160601000000", "http://example.com/", "text/html", "404", "BBBB", 700, 2501, "a.warc"),
+    ("com,example)/", "20170101000000", "https://example.com/", "text/html", "200", "CCCC", 1100, 0, "b.warc"),
+    ("com,example)/a", "20150101000000", "http://example.com/a", "text/plain", "503", "DDDD", 300, 1100, "b.warc"),
+    ("com,example)/b.png", "20150101000000", "http://example.com/b.png", "image/png", "200", "EEEE", 400, 1400, "b.warc"),
+    ("com,example,sub)/", "20160101000000", "http://sub.example.com/", "text/html", "200", "AAAA", 1000, 1800, "b.warc"),
+    ("org,example)/", "20200101000000", "http://example.org/", "text/html", "301", "FFFF", 300, 2800, "b.warc"),
 )
 SAMPLE = "".join(LINE % capture for capture in CAPTURES)
 
@@ -237,11 +144,7 @@ class Server:
     def metric(self, name: str) -> float:
         """Returns the sum of a metric over its labels."""
         found = self.ask("/metrics").text.splitlines()
-        return sum(
-            float(line.rpartition(" ")[2])
-            for line in found
-            if line.startswith(f"warcdx_gateway_{name}")
-        )
+        return sum(float(line.rpartition(" ")[2]) for line in found if line.startswith(f"warcdx_gateway_{name}"))
 
     def workers(self) -> list[int]:
         """Returns the process IDs of the workers."""
@@ -296,23 +199,14 @@ class Case(unittest.TestCase):
         path.write_text(text)
         return path
 
-    def start(
-        self,
-        settings: Optional[str] = None,
-        head: str = "",
-        program: "str | pathlib.Path" = PROGRAM,
-        **limits: int,
-    ) -> Server:
+    def start(self, settings: Optional[str] = None, head: str = "", program: "str | pathlib.Path" = PROGRAM, **limits: int) -> Server:
         """Starts a gateway over the file `index`, or with these settings, with `head` before them."""
         if settings is None:
             settings = '[collections.main]\nindexes = ["index"]\n'
         settings = head + settings
         table = "".join(f"{name} = {value}\n" for name, value in limits.items())
         workers = "" if "workers" in settings else "workers = 3\n"
-        path = self.put(
-            f'port = 0\nprogram = "{program}"\n{workers}{settings}[limits]\n{table}',
-            "settings.toml",
-        )
+        path = self.put(f'port = 0\nprogram = "{program}"\n{workers}{settings}[limits]\n{table}', "settings.toml")
         server = self.run_command(str(path))
         found = re.search("workers = ([0-9]+)", path.read_text())
         assert found is not None
@@ -329,12 +223,7 @@ class Case(unittest.TestCase):
     def run_command(self, *arguments: str) -> Server:
         said = self.folder / "said"
         with open(said, "ab") as file:
-            process = subprocess.Popen(
-                ("/usr/bin/python3", COMMAND, *arguments),
-                stdout=subprocess.PIPE,
-                stderr=file,
-                text=True,
-            )
+            process = subprocess.Popen(("/usr/bin/python3", COMMAND, *arguments), stdout=subprocess.PIPE, stderr=file, text=True)
         server = Server(process, said)
         self.addCleanup(server.end)
         return server

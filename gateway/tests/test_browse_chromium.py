@@ -65,12 +65,7 @@ class Browsing(support.Pages, unittest.IsolatedAsyncioTestCase):
             await tab.press_mouse("tbody tr:nth-child(3) input[name=second]")
             await tab.click("form:not([role=search]) button")
             self.assertIn("1 line differs.", await tab.text())
-            self.assertEqual(
-                ["17", "18"],
-                await tab.evaluate(
-                    "[...document.querySelectorAll('del, ins')].map(e => e.innerText)"
-                ),
-            )
+            self.assertEqual(["17", "18"], await tab.evaluate("[...document.querySelectorAll('del, ins')].map(e => e.innerText)"))
 
     async def test_the_keyboard_reaches_everything_in_order(self) -> None:
         async with browser() as tab:
@@ -89,12 +84,7 @@ class Browsing(support.Pages, unittest.IsolatedAsyncioTestCase):
             await tab.open(self.address("/crawl/browse/search?url=example.com&year=2016"))
             while await tab.tab() != "Saturday, 31 December 2016: 1 capture":
                 pass
-            self.assertEqual(
-                "3px",
-                await tab.evaluate(
-                    "getComputedStyle(document.activeElement.querySelector('rect')).strokeWidth"
-                ),
-            )
+            self.assertEqual("3px", await tab.evaluate("getComputedStyle(document.activeElement.querySelector('rect')).strokeWidth"))
             await tab.enter()
             self.assertIn("Captures on 31 December 2016", await tab.text())
             await tab.tab()
@@ -105,32 +95,16 @@ class Browsing(support.Pages, unittest.IsolatedAsyncioTestCase):
         async with browser() as tab:
             await tab.open(self.address("/crawl/browse/search?url=example.com&year=2016"))
             links = await tab.named("link")
-            for name in (
-                "2016: 3 captures",
-                "Thursday, 3 March 2016: 2 captures",
-                "Record of 3 March 2016, 09:34:31",
-            ):
+            for name in ("2016: 3 captures", "Thursday, 3 March 2016: 2 captures", "Record of 3 March 2016, 09:34:31"):
                 self.assertEqual(1, links.count(name), links)
             groups = await tab.named("group")
-            for name in (
-                "Captures of each year",
-                "March 2016: 2 captures",
-                "December 2016: 1 capture",
-            ):
+            for name in ("Captures of each year", "March 2016: 2 captures", "December 2016: 1 capture"):
                 self.assertIn(name, groups)
             self.assertIn("April 2016: no captures", await tab.named("image"))
             self.assertEqual(["Captures in 2016"], await tab.named("table"))
             self.assertEqual(["URL or host"], await tab.named("textbox"))
-            self.assertEqual(
-                ["first: 3 March 2016, 09:34:31", "second: 3 March 2016, 09:34:31"],
-                (await tab.named("radio"))[:2],
-            )
-            for names in (
-                links,
-                await tab.named("button"),
-                await tab.named("heading"),
-                await tab.named("columnheader"),
-            ):
+            self.assertEqual(["first: 3 March 2016, 09:34:31", "second: 3 March 2016, 09:34:31"], (await tab.named("radio"))[:2])
+            for names in (links, await tab.named("button"), await tab.named("heading"), await tab.named("columnheader")):
                 self.assertNotIn("", names)
             await tab.evaluate("document.querySelectorAll('details').forEach(e => e.open = true)")
             self.assertIn("Captures of each day of 2016", await tab.named("table"))
@@ -181,9 +155,7 @@ class Browsing(support.Pages, unittest.IsolatedAsyncioTestCase):
                     for path in paths:
                         await tab.open(self.address(path))
                         self.assertLessEqual(await tab.evaluate(OVERFLOW), 0, (path, width))
-                    backgrounds.add(
-                        await tab.evaluate("getComputedStyle(document.body).backgroundColor")
-                    )
+                    backgrounds.add(await tab.evaluate("getComputedStyle(document.body).backgroundColor"))
                 self.assertEqual(2, len(backgrounds))
 
     def offset_of_second(self) -> int:
@@ -382,10 +354,7 @@ setTimeout(() => {{ top.location = "{evil}/top" }}, 5000)</script>
         self.is_attacking = True
         async with browser() as tab:
             await tab.open(self.evil + "/attack")
-            await chromium.until(
-                lambda: {"/script", "/fetch", "/image", "/style", "/frame", "/refresh"}
-                <= set(self.reached)
-            )
+            await chromium.until(lambda: {"/script", "/fetch", "/image", "/style", "/frame", "/refresh"} <= set(self.reached))
             self.assertGreater(self.connections(), 0)
             for link in ("upper", "lower"):
                 await tab.open(self.evil + "/attack")
@@ -396,22 +365,10 @@ setTimeout(() => {{ top.location = "{evil}/top" }}, 5000)</script>
     async def check_nowhere(self, tab: Tab, name: str, address: str) -> None:
         self.assertEqual(address, await tab.evaluate("location.href"), name)
         self.assertIsNone(await tab.evaluate("window.hacked"), name)
-        self.assertTrue(
-            (await tab.evaluate("document.title")).startswith("Record of 3 March 2016"), name
-        )
+        self.assertTrue((await tab.evaluate("document.title")).startswith("Record of 3 March 2016"), name)
         self.assertEqual(([], 0), (self.reached, self.connections()), name)
-        sent = {
-            event["request"]["url"].partition("?")[0]
-            for event in tab.events("Network.requestWillBeSent")
-        }
-        self.assertEqual(
-            [],
-            [
-                each
-                for each in sent
-                if not each.startswith((self.root, "data:", "about:"))
-            ],
-        )
+        sent = {event["request"]["url"].partition("?")[0] for event in tab.events("Network.requestWillBeSent")}
+        self.assertEqual([], [each for each in sent if not each.startswith((self.root, "data:", "about:"))])
 
 
 if __name__ == "__main__":

@@ -23,16 +23,9 @@ def html_lines(text: str) -> list[str]:
 class Texts(unittest.TestCase):
     def test_the_text_of_html_is_what_a_reader_sees(self) -> None:
         for text, lines in (
-            (
-                "<title>T</title><h1>A <b>bold</b>\n word</h1><p>One<br>two<p>three",
-                ["T", "A bold word", "One", "two", "three"],
-            ),
+            ("<title>T</title><h1>A <b>bold</b>\n word</h1><p>One<br>two<p>three", ["T", "A bold word", "One", "two", "three"]),
             ("<script>var a = '<p>no</p>'</script><style>p {}</style><p>yes", ["yes"]),
-            (
-                "<noscript><p>no</p></noscript><template><p>no</template>"
-                "<svg><text>no</text></svg>yes",
-                ["yes"],
-            ),
+            ("<noscript><p>no</p></noscript><template><p>no</template>" "<svg><text>no</text></svg>yes", ["yes"]),
             ("<ul><li>a</li><li>b</li></ul><table><tr><td>c<td>d</table>", ["a", "b", "c", "d"]),
             ("a &amp; b &lt;c&gt; &eacute; &#x202e;", ["a & b <c> é \u202e"]),
             ("<img alt='a picture'> and <img>", ["a picture and"]),
@@ -57,9 +50,7 @@ class Texts(unittest.TestCase):
             self.assertEqual(text, decoded(content, charset, is_html))
 
     def test_long_texts_are_cut(self) -> None:
-        self.assertEqual(
-            (4000, True), (len(lines_of("a\n" * 5000, False)[0]), lines_of("a\n" * 5000, False)[1])
-        )
+        self.assertEqual((4000, True), (len(lines_of("a\n" * 5000, False)[0]), lines_of("a\n" * 5000, False)[1]))
         self.assertEqual((["a" * 2000], True), lines_of("a" * 2001, False))
         lines, is_cut = lines_of(("a" * 1999 + "\n") * 200, False)
         self.assertEqual((200_000, True), (sum(map(len, lines)), is_cut))
@@ -72,24 +63,17 @@ class Rows(unittest.TestCase):
         rows = list(compare(first, second))
         self.assertEqual({"equal": 8}, rows[0])
         self.assertEqual({"equal": 7}, rows[-1])
-        self.assertEqual(
-            [["8"], ["9"], ["10"], ["11"], ["12"]],
-            [[text for _, text in row["left"]] for row in rows[1:-1]],
-        )
+        self.assertEqual([["8"], ["9"], ["10"], ["11"], ["12"]], [[text for _, text in row["left"]] for row in rows[1:-1]])
         self.assertEqual([{"equal": 20}], list(compare(first, first)))
         self.assertEqual([], list(compare([], [])))
 
     def test_all_lines_are_in_the_rows(self) -> None:
         rng = random.Random(1)
         for _ in range(200):
-            first, second = (
-                [rng.choice("abcd efgh") for _ in range(rng.randrange(12))] for _ in range(2)
-            )
+            first, second = ([rng.choice("abcd efgh") for _ in range(rng.randrange(12))] for _ in range(2))
             rows = list(compare(first, second))
             for side, lines in (("left", first), ("right", second)):
-                count = sum(
-                    row["equal"] if "equal" in row else row[side] is not None for row in rows
-                )
+                count = sum(row["equal"] if "equal" in row else row[side] is not None for row in rows)
                 self.assertEqual(len(lines), count, rows)
 
     def test_words_that_differ_are_marked(self) -> None:
@@ -117,13 +101,7 @@ class Hostile(support.Pages):
             "marks": "<p>a\u202eb</p><p>&#0;&#27;[2J\x1b\x9b</p>".encode(),
             "script": b"&lt;script&gt;alert(1)&lt;/script&gt;<p>&lt;/td&gt;",
         }
-        archives.add(
-            "a.warc",
-            [
-                response(HOME + name, "2016-03-03T00:00:00Z", body)
-                for name, body in self.bodies.items()
-            ],
-        )
+        archives.add("a.warc", [response(HOME + name, "2016-03-03T00:00:00Z", body) for name, body in self.bodies.items()])
 
     def of(self, name: str) -> str:
         return self.pair(*self.archives.places[HOME + name])
@@ -134,18 +112,14 @@ class Hostile(support.Pages):
             answer = self.ask("compare", first=self.of(name), second=self.of("other-lines"))
             text = text_of(answer.text)
             self.assertIn(answer.status_code, (200, 422), name)
-            self.assertTrue(
-                "side by side" in text or "They need more than 3 seconds" in text, text[:300]
-            )
+            self.assertTrue("side by side" in text or "They need more than 3 seconds" in text, text[:300])
             self.assertLess(time.process_time() - start, 12, name)
 
     def test_texts_are_escaped(self) -> None:
         for name in ("marks", "script"):
             found = self.get("compare", first=self.of(name), second=self.of("plain"))
             self.assertNotIn("<script", found)
-        found = text_of(
-            self.get("compare", first=self.of("marks"), second=self.of("plain"))
-        )
+        found = text_of(self.get("compare", first=self.of("marks"), second=self.of("plain")))
         self.assertIn("a [U+202E] b", found)
 
     def test_pairs_are_checked(self) -> None:
@@ -163,14 +137,9 @@ class Hostile(support.Pages):
             self.assertRaises(compare_page.NotShown, compare_page.run, [])
 
     def test_the_process_reads_what_is_written_for_it(self) -> None:
-        given = io.BytesIO(
-            json.dumps({"sizes": [1, 1], "charsets": [None, None], "html": [False, False]}).encode()
-            + b"\nab"
-        )
+        given = io.BytesIO(json.dumps({"sizes": [1, 1], "charsets": [None, None], "html": [False, False]}).encode() + b"\nab")
         output = io.StringIO()
-        with mock.patch("sys.stdin", mock.Mock(buffer=given)), mock.patch(
-            "sys.stdout", output
-        ), mock.patch("resource.setrlimit"):
+        with mock.patch("sys.stdin", mock.Mock(buffer=given)), mock.patch("sys.stdout", output), mock.patch("resource.setrlimit"):
             comparing.main()
         self.assertEqual([False, False], json.loads(output.getvalue())["cut"])
 

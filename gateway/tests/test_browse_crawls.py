@@ -43,23 +43,13 @@ class Many(support.Pages):
     """More captures than are held at a time."""
 
     def fill(self, archives: Archives) -> None:
-        stamps = [
-            f"{2000 + number // 500}{number % 12 + 1:02}15{number % 86400:06}"
-            for number in range(3500)
-        ]
+        stamps = [f"{2000 + number // 500}{number % 12 + 1:02}15{number % 86400:06}" for number in range(3500)]
         name = "a%b +&=ü.warc"
-        archives.put(
-            "index",
-            b"".join(
-                sorted(archives.line(HOME, stamp, name, at) for at, stamp in enumerate(stamps))
-            ),
-        )
+        archives.put("index", b"".join(sorted(archives.line(HOME, stamp, name, at) for at, stamp in enumerate(stamps))))
 
     def test_all_are_counted(self) -> None:
         found = self.get("search", url=HOME)
-        self.assertIn(
-            "3,500 captures between 15 January 2000 and 15 December 2006.", text_of(found)
-        )
+        self.assertIn("3,500 captures between 15 January 2000 and 15 December 2006.", text_of(found))
         for year in range(2000, 2007):
             self.assertIn(f'aria-label="{year}: 500 captures"', found)
 
@@ -85,9 +75,7 @@ class LongLines(support.Pages):
     """An index with a line of 9 MB."""
 
     def fill(self, archives: Archives) -> None:
-        lines = [
-            archives.line(HOME, f"2016010100000{number}", "a.warc", number) for number in range(9)
-        ]
+        lines = [archives.line(HOME, f"2016010100000{number}", "a.warc", number) for number in range(9)]
         lines.append(archives.line(HOME, "20170101000000", "x" * (9 << 20), 9))
         archives.put("index", b"".join(lines))
 

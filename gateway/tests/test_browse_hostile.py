@@ -50,19 +50,8 @@ class Indexes(support.Pages):
         lines = [archives.line(address, f"2016030300000{number}", "good.warc", 0)
                  for number, address in enumerate(ADDRESSES)]  # fmt: skip
         lines += [
-            archives.line(
-                HOME,
-                "20160304000000",
-                MARKUP,
-                0,
-                mime=MARKUP,
-                status=MARKUP,
-                digest=MARKUP,
-                length=MARKUP,
-            ),
-            archives.line(
-                LONG, "20160305000000", LONG, 0, mime=LONG, status=LONG, digest=LONG, length=LONG
-            ),
+            archives.line(HOME, "20160304000000", MARKUP, 0, mime=MARKUP, status=MARKUP, digest=MARKUP, length=MARKUP),
+            archives.line(LONG, "20160305000000", LONG, 0, mime=LONG, status=LONG, digest=LONG, length=LONG),
             archives.line(LONG, "20160306000000", LONG, 0, key="com,example)/" + "k" * 100_000),
             archives.line(HOME, "00000000000000", "good.warc", 0),
             archives.line(HOME, "00010101000000", "good.warc", 0),
@@ -73,11 +62,7 @@ class Indexes(support.Pages):
         # Indexes may name any file.
         for name in (*OUTSIDE, str(outside), "good.warc", "missing.warc"):
             for offset in (0, 1, 2**63 - 1):
-                lines.append(
-                    archives.line(
-                        HOME, "20160303000000", name, offset, key=NAMED["key"], length=self.length
-                    )
-                )
+                lines.append(archives.line(HOME, "20160303000000", name, offset, key=NAMED["key"], length=self.length))
         archives.put("index", b"".join(sorted(lines)))
 
     def test_values_are_escaped_everywhere(self) -> None:
@@ -93,12 +78,7 @@ class Indexes(support.Pages):
             self.assertNotIn(SCRIPT, found)
             self.assertLess(len(found), 200_000)
         listed = text_of(self.get("captures", url="*.example.com"))
-        for words in (
-            "javascript:alert(document.domain)",
-            SCRIPT,
-            "[U+202E] gpj.exe",
-            "[U+009B] 31m",
-        ):
+        for words in ("javascript:alert(document.domain)", SCRIPT, "[U+202E] gpj.exe", "[U+009B] 31m"):
             self.assertIn(words, listed)
 
     def test_what_a_reader_sends_is_escaped(self) -> None:
@@ -186,11 +166,7 @@ class Records(support.Pages):
         cut = gzip.compress(html)[:-4]
         nothing = gzip.compress(gzip.compress(gzip.compress(b"") * 4_000_000))  # in members
         controls = ["X\0-Name\x1b: a\rb\x7f", "\udcff: \udcfe", "No colon", MARKUP]
-        pointers = [
-            f"WARC-Payload-Digest: sha1:{MARKUP}&key=x",
-            f"WARC-Refers-To-Target-URI: {MARKUP}",
-            f"WARC-Refers-To-Date: {MARKUP}",
-        ]
+        pointers = [f"WARC-Payload-Digest: sha1:{MARKUP}&key=x", f"WARC-Refers-To-Target-URI: {MARKUP}", f"WARC-Refers-To-Date: {MARKUP}"]
         http = "application/http; msgtype=response"
 
         def coded(name: str, body: bytes, coding: str) -> bytes:
@@ -262,10 +238,7 @@ class Records(support.Pages):
     def test_the_policy_of_payloads_lets_nothing_act(self) -> None:
         directives = dict(part.strip().partition(" ")[::2] for part in PAYLOAD_POLICY.split(";"))
         self.assertEqual(
-            ("", "'none'", "'none'", "'none'"),
-            tuple(
-                directives[each] for each in ("sandbox", "default-src", "form-action", "base-uri")
-            ),
+            ("", "'none'", "'none'", "'none'"), tuple(directives[each] for each in ("sandbox", "default-src", "form-action", "base-uri"))
         )
         self.assertNotIn("script-src", directives)
 
@@ -286,17 +259,13 @@ class Records(support.Pages):
     def test_a_payload_has_no_window_of_its_own(self) -> None:
         query = self.named("html")
         answer = self.ask("payload", {"Sec-Fetch-Dest": "document"}, **query)
-        self.assertEqual(
-            (303, f"record?{urlencode(query)}"), (answer.status_code, answer.headers["Location"])
-        )
+        self.assertEqual((303, f"record?{urlencode(query)}"), (answer.status_code, answer.headers["Location"]))
         answer = self.ask("payload", {"Sec-Fetch-Dest": "iframe"}, **query)
         self.assertEqual(200, answer.status_code)
 
     def test_the_redirect_of_a_payload_keeps_its_query(self) -> None:
         query = "archive=a%26b%2Bc%2520d%23e.warc&offset=0&timestamp=20160303000000&key=k"
-        answer = self.client.get(
-            f"/crawl/browse/payload?{query}", headers={"Sec-Fetch-Dest": "document"}
-        )
+        answer = self.client.get(f"/crawl/browse/payload?{query}", headers={"Sec-Fetch-Dest": "document"})
         self.assertEqual(f"record?{query}", answer.headers["Location"])
 
     def test_captures_as_they_were_archived_are_held(self) -> None:
@@ -313,14 +282,7 @@ class Records(support.Pages):
 
     def test_what_can_not_be_seen_is_shown(self) -> None:
         text = text_of(self.shown("controls"))
-        for words in (
-            "X [U+0000] -Name [U+001B]",
-            "a [U+000D] b [U+007F]",
-            r"\xFF",
-            r"\xFE",
-            "No colon",
-            SCRIPT,
-        ):
+        for words in ("X [U+0000] -Name [U+001B]", "a [U+000D] b [U+007F]", r"\xFF", r"\xFE", "No colon", SCRIPT):
             self.assertIn(words, text)
 
     def test_digests_have_verdicts_in_words(self) -> None:
@@ -331,25 +293,18 @@ class Records(support.Pages):
         ):
             self.assertIn(words, text_of(self.shown(name)))
         with mock.patch("warcdx_gateway.browse.record_page.MOST_VERIFIED", 10):
-            self.assertIn(
-                "Not compared: the block has more than", text_of(self.shown("html"))
-            )
+            self.assertIn("Not compared: the block has more than", text_of(self.shown("html")))
 
     def test_heads_of_many_fields_are_cut(self) -> None:
         text = text_of(self.shown("many"))
-        shown = [
-            words in text for words in ("HTTP/1.1 200 OK", "X-297", "X-298", "2,702 fields more")
-        ]
+        shown = [words in text for words in ("HTTP/1.1 200 OK", "X-297", "X-298", "2,702 fields more")]
         self.assertEqual([True, True, False, True], shown)
 
     def test_bombs_are_given_up(self) -> None:
         tracemalloc.start()
         self.addCleanup(tracemalloc.stop)
         start = time.process_time()
-        self.assertIn(
-            "The payload has more than 4,194,304 bytes. Its beginning is shown.",
-            text_of(self.shown("bomb")),
-        )
+        self.assertIn("The payload has more than 4,194,304 bytes. Its beginning is shown.", text_of(self.shown("bomb")))
         self.assertEqual(4 * MEGABYTE, len((self.payload("bomb"))[1]))
         self.assertIn("can't be unpacked to its end", text_of(self.shown("nested")))
         self.assertIn("more than 8 codings", text_of(self.shown("codings")))
@@ -366,9 +321,7 @@ class Records(support.Pages):
         ):
             self.assertIn(words, text_of(self.shown(name)))
         for name in ("unknown", "cut-head"):
-            found = text_of(
-                self.get("download", 422, what="payload", **self.named(name))
-            )
+            found = text_of(self.get("download", 422, what="payload", **self.named(name)))
             self.assertIn("The payload can't be unpacked.", found)
             saved = self.ask("download", what="record", **self.named(name))
             self.assertEqual(self.all[name], saved.data)
@@ -387,8 +340,7 @@ class Records(support.Pages):
                 answer = self.ask("download", what=what, **self.named(name))
                 self.assertEqual("application/octet-stream", answer.headers["Content-Type"])
                 self.assertRegex(
-                    answer.headers["Content-Disposition"],
-                    r"""^attachment; filename="[\w.-]+"; filename\*=UTF-8''[\w.%~-]+$""",
+                    answer.headers["Content-Disposition"], r"""^attachment; filename="[\w.-]+"; filename\*=UTF-8''[\w.%~-]+$"""
                 )
                 self.assertIn("sandbox", answer.headers["Content-Security-Policy"])
 

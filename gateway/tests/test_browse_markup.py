@@ -4,16 +4,7 @@ from html.parser import HTMLParser
 
 
 from warcdx_gateway.browse import responses
-from warcdx_gateway.browse.markup import (
-    Markup,
-    cut,
-    document,
-    element,
-    joined,
-    link,
-    shown,
-    visible,
-)
+from warcdx_gateway.browse.markup import Markup, cut, document, element, joined, link, shown, visible
 
 HOSTILE = "<script>alert(1)</script>\"'&><img src=x onerror=alert(1)>"
 
@@ -37,19 +28,10 @@ class Found(HTMLParser):
 
 class Escaping(unittest.TestCase):
     def test_texts_and_values_are_escaped(self) -> None:
-        made = element(
-            "p",
-            HOSTILE,
-            [HOSTILE, element("b", HOSTILE)],
-            title=HOSTILE,
-            aria_label=HOSTILE,
-            class_=HOSTILE,
-        )
+        made = element("p", HOSTILE, [HOSTILE, element("b", HOSTILE)], title=HOSTILE, aria_label=HOSTILE, class_=HOSTILE)
         found = Found(made.text)
         self.assertEqual(["p", "b"], [name for name, _ in found.elements])
-        self.assertEqual(
-            {"title": HOSTILE, "aria-label": HOSTILE, "class": HOSTILE}, found.elements[0][1]
-        )
+        self.assertEqual({"title": HOSTILE, "aria-label": HOSTILE, "class": HOSTILE}, found.elements[0][1])
         self.assertEqual(HOSTILE * 3, found.data)
 
     def test_markup_is_no_text(self) -> None:
@@ -61,22 +43,13 @@ class Escaping(unittest.TestCase):
         for name in ("href", "src", "action"):
             self.assertRaises(TypeError, element, "a", **{name: "javascript:alert(1)"})
         self.assertRaises(TypeError, element, "a", title=link("record"))
-        for path in (
-            "javascript:alert(1)",
-            "//evil.example/",
-            "http://evil.example/",
-            "a?b",
-            "a\nb",
-            "\\\\evil",
-        ):
+        for path in ("javascript:alert(1)", "//evil.example/", "http://evil.example/", "a?b", "a\nb", "\\\\evil"):
             self.assertRaises(ValueError, link, path)
             self.assertRaises(ValueError, link, "record", path)
 
     def test_values_of_a_link_are_encoded(self) -> None:
         made = link("search", url="javascript:alert(1)//&year=1\r\n#x\ud800", from_="", year=None)
-        self.assertEqual(
-            "search?url=javascript%3Aalert%281%29%2F%2F%26year%3D1%0D%0A%23x%3F", made.text
-        )
+        self.assertEqual("search?url=javascript%3Aalert%281%29%2F%2F%26year%3D1%0D%0A%23x%3F", made.text)
 
     def test_what_acts_or_styles_is_no_attribute(self) -> None:
         for name in ("onclick", "ONLOAD", "style", "srcdoc", "a b", "x>", ""):
@@ -85,21 +58,11 @@ class Escaping(unittest.TestCase):
             self.assertRaises(ValueError, element, name)
 
     def test_attributes_may_be_left_out(self) -> None:
-        made = element(
-            "input",
-            type="radio",
-            checked=True,
-            required=False,
-            title=None,
-            for_="a",
-            data_label="b",
-        )
+        made = element("input", type="radio", checked=True, required=False, title=None, for_="a", data_label="b")
         self.assertEqual('<input type="radio" checked for="a" data-label="b">', made.text)
 
     def test_a_document_is_utf_8(self) -> None:
-        made = document(
-            "a\u202e\ud800</title><b>", joined("\ud800", "é"), link("style.css"), link("icon.svg")
-        )
+        made = document("a\u202e\ud800</title><b>", joined("\ud800", "é"), link("style.css"), link("icon.svg"))
         self.assertIn("<title>a[U+202E][U+D800]&lt;/title&gt;&lt;b&gt;</title>", made.decode())
         self.assertIn('<b class="unseen">[U+D800]</b>é', made.decode())
 

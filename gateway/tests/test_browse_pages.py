@@ -23,31 +23,16 @@ SECOND = page("Home", "Open from 9 to 18.", "The same.")
 class Reading(support.Pages):
     def fill(self, archives: Archives) -> None:
         records = [
-            record(
-                "warcinfo",
-                "",
-                "2016-03-01T00:00:00Z",
-                b"software: none\r\n",
-                "application/warc-fields",
-            ),
+            record("warcinfo", "", "2016-03-01T00:00:00Z", b"software: none\r\n", "application/warc-fields"),
             response(HOME, "2016-03-03T09:34:31Z", FIRST, http=["X-Field: a value"]),
             response(HOME, "2016-03-03T10:00:00Z", SECOND),
             revisit(HOME, "2016-12-31T23:59:59Z", SECOND, "2016-03-03T10:00:00Z"),
             response(HOME, "2018-07-01T00:00:00Z", b"gone", "text/plain", status="410 Gone"),
             response("http://example.com/a%20b?c=d", "2017-01-01T00:00:00Z", FIRST),
-            response(
-                "http://www.example.com/logo",
-                "2017-01-01T00:00:00Z",
-                b"\x89PNG\r\n\x1a\n",
-                "image/png",
-            ),
+            response("http://www.example.com/logo", "2017-01-01T00:00:00Z", b"\x89PNG\r\n\x1a\n", "image/png"),
             response("http://sub.example.com/", "2017-02-01T00:00:00Z", FIRST),
-            response(
-                "http://example.org/data", "2017-02-01T00:00:00Z", b"PK\3\4", "application/zip"
-            ),
-            record(
-                "resource", "http://example.org/note", "2017-02-01T00:00:00Z", b"text", "text/plain"
-            ),
+            response("http://example.org/data", "2017-02-01T00:00:00Z", b"PK\3\4", "application/zip"),
+            record("resource", "http://example.org/note", "2017-02-01T00:00:00Z", b"text", "text/plain"),
         ]
         digests = {"Block": digest_of(b""), "Payload": digest_of(FIRST)}
         of_wget = [f"WARC-{part}-Digest: {digest}" for part, digest in digests.items()]
@@ -62,12 +47,7 @@ class Reading(support.Pages):
             )
         )
         archives.add("a.warc", records)
-        packed = response(
-            "http://packed.example/",
-            "2019-01-01T00:00:00Z",
-            gzip.compress(FIRST),
-            http=["Content-Encoding: gzip"],
-        )
+        packed = response("http://packed.example/", "2019-01-01T00:00:00Z", gzip.compress(FIRST), http=["Content-Encoding: gzip"])
         archives.add("b.warc.gz", [packed])
 
     def test_the_list_of_collections_links_each(self) -> None:
@@ -116,16 +96,9 @@ class Reading(support.Pages):
         self.assertIn('aria-label="Saturday, 31 December 2016: 1 capture"', found)
         self.assertEqual(2, len(re.findall('<text [^>]*class="day"', found)))
         self.assertIn("Captures in 2016", text)
-        rows = re.findall(
-            r"<tr role=\"row\"><th scope=\"row\" role=\"rowheader\" class=\"time\">(.*?)</tr>",
-            found,
-        )
+        rows = re.findall(r"<tr role=\"row\"><th scope=\"row\" role=\"rowheader\" class=\"time\">(.*?)</tr>", found)
         self.assertEqual(
-            [
-                "3 March 2016, 09:34:31 200 text/html",
-                "3 March 2016, 10:00:00 200 text/html",
-                "31 December 2016, 23:59:59 200 revisit",
-            ],
+            ["3 March 2016, 09:34:31 200 text/html", "3 March 2016, 10:00:00 200 text/html", "31 December 2016, 23:59:59 200 revisit"],
             [" ".join(text_of(each).split()[:6]) for each in rows],
         )
         self.assertIn("same as above", text_of(rows[2]))
@@ -144,10 +117,7 @@ class Reading(support.Pages):
     def test_each_day_links_its_captures(self) -> None:
         found = self.get("search", url=HOME, year="2016")
         link = re.search(r'<a href="(captures\?[^"]*)" aria-label="Thursday, 3 March', found)
-        self.assertEqual(
-            "captures?url=http%3A%2F%2Fexample.com%2F&amp;from=20160303&amp;to=20160303",
-            link and link[1],
-        )
+        self.assertEqual("captures?url=http%3A%2F%2Fexample.com%2F&amp;from=20160303&amp;to=20160303", link and link[1])
         day = text_of(self.get("captures", url=HOME, from_="20160303", to="20160303"))
         self.assertIn("Captures on 3 March 2016", day)
         self.assertIn("09:34:31", day)
@@ -161,10 +131,7 @@ class Reading(support.Pages):
             ({"url": "example.com", "match": "host"}, of_host),
             ({"url": "example.com/a*"}, ["http://example.com/a%20b?c=d"]),
             ({"url": "*.example.com", "year": "2018"}, ["http://example.com/"]),
-            (
-                {"url": "*.example.com", "from": "2017-02", "to": "2017"},
-                ["http://sub.example.com/"],
-            ),
+            ({"url": "*.example.com", "from": "2017-02", "to": "2017"}, ["http://sub.example.com/"]),
         ):
             found = self.get("search", **query)
             addresses = re.findall(r'<a href="search\?url=[^"]*"><bdi>(.*?)</bdi></a>', found)
@@ -193,15 +160,8 @@ class Reading(support.Pages):
 
     def test_nothing_found_offers_wider_searches(self) -> None:
         found = self.get("search", url="example.com/nothing", from_="2016")
-        self.assertIn(
-            "The collection has no capture of this in the time from 2016 to the last.",
-            text_of(found),
-        )
-        for words in (
-            "Search at any time",
-            "Search the whole host",
-            "Search for URLs that begin with it",
-        ):
+        self.assertIn("The collection has no capture of this in the time from 2016 to the last.", text_of(found))
+        for words in ("Search at any time", "Search the whole host", "Search for URLs that begin with it"):
             self.assertIn(words, found)
 
     def test_times_are_typed_in_several_ways(self) -> None:
@@ -216,9 +176,7 @@ class Reading(support.Pages):
             self.assertEqual(2, first.count("Record of"))
             link = re.search(r'<a href="captures\?([^"#]*)#list" rel="next">Next 2</a>', first)
             assert link
-            answer = self.client.get(
-                "/crawl/browse/captures?" + link[1].replace("&amp;", "&")
-            )
+            answer = self.client.get("/crawl/browse/captures?" + link[1].replace("&amp;", "&"))
             second = answer.text
         self.assertIn("Record of 31 December 2016, 23:59:59", second)
         self.assertIn("Record of 1 July 2018", second)
@@ -265,12 +223,7 @@ class Reading(support.Pages):
 
     def test_a_record_that_no_index_names_is_not_shown(self) -> None:
         place = self.place_of(1)
-        for name, value in (
-            ("offset", 0),
-            ("archive", "b.warc.gz"),
-            ("timestamp", "20160303093432"),
-            ("key", "com,example)/other"),
-        ):
+        for name, value in (("offset", 0), ("archive", "b.warc.gz"), ("timestamp", "20160303093432"), ("key", "com,example)/other")):
             for path in ("record", "payload", "download"):
                 self.get(path, 404, **{**place, name: value})
         for name in ("offset", "timestamp", "key"):
@@ -289,11 +242,7 @@ class Reading(support.Pages):
 
     def test_a_revisit_has_its_original(self) -> None:
         found = self.get("record", **self.place_of(3))
-        self.assertIn(
-            "The payload is that of the capture of 3 March 2016, 10:00:00 , which has the same "
-            "digest.",
-            text_of(found),
-        )
+        self.assertIn("The payload is that of the capture of 3 March 2016, 10:00:00 , which has the same " "digest.", text_of(found))
         self.assertIn(f'href="record?archive=a.warc&amp;offset={self.offset_of(2)}&amp;', found)
         self.assertIn("The payload is empty.", text_of(found))
 
@@ -312,19 +261,13 @@ class Reading(support.Pages):
         self.assertEqual(FIRST, answer.data)
 
     def test_two_texts_are_compared(self) -> None:
-        found = self.get(
-            "compare", first=self.pair_of(1), second=self.pair_of(2)
-        )
+        found = self.get("compare", first=self.pair_of(1), second=self.pair_of(2))
         self.assertIn("1 line differs.", text_of(found))
         self.assertIn("9 to <del>17</del>.", found)
         self.assertIn("9 to <ins>18</ins>.", found)
 
     def test_a_revisit_is_compared_by_its_original(self) -> None:
-        found = text_of(
-            self.get(
-                "compare", first=self.pair_of(2), second=self.pair_of(3)
-            )
-        )
+        found = text_of(self.get("compare", first=self.pair_of(2), second=self.pair_of(3)))
         self.assertIn("The texts are the same. The payloads are the same, byte for byte.", found)
         self.assertIn("(a revisit: the text of its original)", found)
 
@@ -338,20 +281,12 @@ class Reading(support.Pages):
         self.assertEqual(b"WARC/1.1\r\n", answer.data[:10])
         self.assertEqual("application/octet-stream", answer.headers["Content-Type"])
         name = f"a.warc-{self.offset_of(1)}.warc"
-        self.assertEqual(
-            f"attachment; filename=\"{name}\"; filename*=UTF-8''{name}",
-            answer.headers["Content-Disposition"],
-        )
+        self.assertEqual(f"attachment; filename=\"{name}\"; filename*=UTF-8''{name}", answer.headers["Content-Disposition"])
         saved = self.ask("download", what="payload", **self.place("http://packed.example/"))
         self.assertEqual(FIRST, saved.data)
-        self.assertIn(
-            'filename="20190101000000-packed.example"', saved.headers["Content-Disposition"]
-        )
+        self.assertIn('filename="20190101000000-packed.example"', saved.headers["Content-Disposition"])
         head = self.client.head("/crawl/browse/download", query_string=self.place_of(1))
-        self.assertEqual(
-            (200, answer.headers["Content-Length"]),
-            (head.status_code, head.headers["Content-Length"]),
-        )
+        self.assertEqual((200, answer.headers["Content-Length"]), (head.status_code, head.headers["Content-Length"]))
 
     def offset_of(self, number: int) -> int:
         """Returns the offset of a record of a.warc."""
@@ -366,6 +301,7 @@ class Reading(support.Pages):
 
     def source(self) -> Source:
         return self.gateway.source(self.gateway.main)
+
 
 if __name__ == "__main__":
     unittest.main()

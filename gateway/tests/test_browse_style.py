@@ -18,11 +18,7 @@ TEXTS = (
     ("bad", "card"),
     *(("text", each) for each in ("removed", "removed-word", "added", "added-word")),
 )
-SHAPES = (
-    *((each, "card") for each in (*SHADES, "bar", "focus")),
-    ("bar", "chosen"),
-    ("faint", "page"),
-)
+SHAPES = (*((each, "card") for each in (*SHADES, "bar", "focus")), ("bar", "chosen"), ("faint", "page"))
 
 
 def colours() -> list[dict[str, str]]:
@@ -35,9 +31,7 @@ def colours() -> list[dict[str, str]]:
 def luminance(colour: str) -> float:
     """Returns the relative luminance, by the definition of WCAG."""
     parts = (int(colour[at : at + 2], 16) / 255 for at in (1, 3, 5))
-    red, green, blue = (
-        each / 12.92 if each <= 0.03928 else ((each + 0.055) / 1.055) ** 2.4 for each in parts
-    )
+    red, green, blue = (each / 12.92 if each <= 0.03928 else ((each + 0.055) / 1.055) ** 2.4 for each in parts)
     return 0.2126 * red + 0.7152 * green + 0.0722 * blue
 
 

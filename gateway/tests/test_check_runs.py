@@ -162,10 +162,7 @@ class Runs(Checked):
             self.assertEqual(2, len(processes))
             server.process.send_signal(number)
             server.process.wait(WAIT)
-            self.wait_for(
-                lambda: not any(pathlib.Path(f"/proc/{each}").exists() for each in processes),
-                "a process is left",
-            )
+            self.wait_for(lambda: not any(pathlib.Path(f"/proc/{each}").exists() for each in processes), "a process is left")
 
     def test_a_start_can_be_ended_while_indexes_are_checked(self) -> None:
         """Nobody can connect meanwhile."""
@@ -185,10 +182,7 @@ class Runs(Checked):
             self.assertEqual(2, len(found))
             process.send_signal(number)
             self.assertEqual(-number, process.wait(WAIT))
-            self.wait_for(
-                lambda: not any(pathlib.Path(f"/proc/{each}").exists() for each in found),
-                "a process is left",
-            )
+            self.wait_for(lambda: not any(pathlib.Path(f"/proc/{each}").exists() for each in found), "a process is left")
 
 
 class Settings(Checked):
@@ -214,9 +208,7 @@ class Settings(Checked):
             self.assertEqual([], self.ask_pages(self.server))
         self.assertEqual(PAGES, len(self.server.ask(ALL).text.splitlines()))
         hold.unlink()
-        self.wait_for(
-            lambda: len(self.server.ask(ALL).text.splitlines()) == 2 * PAGES, "they aren't used"
-        )
+        self.wait_for(lambda: len(self.server.ask(ALL).text.splitlines()) == 2 * PAGES, "they aren't used")
         self.assertEqual(["1", "1"], self.checks())
         self.assertEqual("", self.server.said.read_text())
 
@@ -243,10 +235,7 @@ class Settings(Checked):
         for number, text in enumerate(disorders().values(), 1):
             self.put(text, f"bad{number}")
             self.read_again(self.first.replace('["index"]', f'["other", "bad{number}"]'))
-            self.wait_for(
-                lambda: self.server.said.read_text().count("the old settings stay in use") == number,
-                "nothing is said",
-            )
+            self.wait_for(lambda: self.server.said.read_text().count("the old settings stay in use") == number, "nothing is said")
             self.assertEqual([], self.ask_pages(self.server))
         self.assertEqual(number, self.server.said.read_text().count("OutOfOrder"))
         self.read_again(self.first.replace('["index"]', '["other"]'))

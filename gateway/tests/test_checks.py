@@ -22,9 +22,7 @@ class Orders(Checked):
         for name, text in disorders().items():
             path = self.put(text)
             said = self.refused_start("--program", str(self.program()), "--indexes", str(path))
-            self.assertRegex(
-                said, rf"^warcdx-gateway: {re.escape(str(path))}: OutOfOrder \d+: The index ", name
-            )
+            self.assertRegex(said, rf"^warcdx-gateway: {re.escape(str(path))}: OutOfOrder \d+: The index ", name)
 
     def test_no_start_over_what_is_no_index(self) -> None:
         good = self.put(lines(PAGES), "good")

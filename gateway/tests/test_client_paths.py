@@ -262,10 +262,7 @@ class Paths(Shared):
             ("/web/20150101000000/http://example.com/", capture),
             ("/web/20150101000000im_/http://example.com/", capture),
             ("/web/20150601id_/http://example.com/", capture),
-            (
-                "/web/2016*/http://example.com/",
-                "/main/browse/search?url=http%3A%2F%2Fexample.com%2F&year=2016",
-            ),
+            ("/web/2016*/http://example.com/", "/main/browse/search?url=http%3A%2F%2Fexample.com%2F&year=2016"),
         ):
             found = self.server.ask(path)
             self.assertEqual(302, found.status)

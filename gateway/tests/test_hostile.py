@@ -94,10 +94,7 @@ class Isolated(Case):
 
     def test_keys_that_are_too_long_for_a_query(self) -> None:
         for size in (61_000, 66_000):
-            text = "".join(
-                LINE % (f"a{n:03}" + "x" * size, "20160101000000", "a", "-", "200", "-", 1, n, "a.warc")
-                for n in range(100)
-            )
+            text = "".join(LINE % (f"a{n:03}" + "x" * size, "20160101000000", "a", "-", "200", "-", 1, n, "a.warc") for n in range(100))
             self.put(text + SAMPLE)
             server = self.start(head=USUAL)
             wanted = b"".join(b"%d\n" % n for n in range(100))
@@ -158,10 +155,7 @@ class Isolated(Case):
     def test_revisits_of_one_key(self) -> None:
         """The originals of a key are read once."""
         original = LINE % ("a", "20160101000000", "a", "text/html", "200", "AAAA", 1, 0, "a.warc")
-        text = "".join(
-            LINE % ("a", 20160102000000 + n, "a", "warc/revisit", "-", "AB"[n % 2] * 4, 1, n, "a.warc")
-            for n in range(50_000)
-        )
+        text = "".join(LINE % ("a", 20160102000000 + n, "a", "warc/revisit", "-", "AB"[n % 2] * 4, 1, n, "a.warc") for n in range(50_000))
         self.put(original + text + SAMPLE)
         server = self.start(head=USUAL)
         with self.bounded(server):
@@ -171,10 +165,7 @@ class Isolated(Case):
         self.compare(server, "/cdx?url=example.com/a&fl=length", b"300\n", other)
 
     def test_patterns_that_explode(self) -> None:
-        texts = (
-            LINE % (f"a{n}", "20160101000000", "x" * 60, "-", "-", "-", 1, n, "a.warc")
-            for n in range(5)
-        )
+        texts = (LINE % (f"a{n}", "20160101000000", "x" * 60, "-", "-", "-", 1, n, "a.warc") for n in range(5))
         self.put("".join(texts) + SAMPLE)
         server = self.start(head=USUAL, pattern=2)
         target = f"/cdx?key=a&matchType=prefix&{EXPLODES}"
@@ -192,14 +183,9 @@ class Patterns(Case):
             + LINE % ("b", "20160101000000", "x" * 65_537, "-", "-", "-", 1, 0, "a.warc")
         )
         server = self.start()
-        self.assertEqual(
-            (200, b"a\n"), server.ask("/cdx?key=a&filter=original:(.)*&fl=urlkey")[::2]
-        )
+        self.assertEqual((200, b"a\n"), server.ask("/cdx?key=a&filter=original:(.)*&fl=urlkey")[::2])
         found = server.ask("/cdx?key=b&filter=original:(.)*&fl=urlkey")
-        self.assertEqual(
-            (400, "refused TooSlow: filter=(.)*: a value has more than 65536 characters\n"),
-            (found.status, found.text),
-        )
+        self.assertEqual((400, "refused TooSlow: filter=(.)*: a value has more than 65536 characters\n"), (found.status, found.text))
         self.assertEqual((200, b"b\n"), server.ask("/cdx?key=b&filter=urlkey:(.)*&fl=urlkey")[::2])
 
     def test_a_pattern_that_would_fill_the_memory_is_refused(self) -> None:
@@ -221,17 +207,10 @@ class Patterns(Case):
             "a{²}",
             "a{1²}",
         ):
-            found = server.ask(
-                f"/cdx?url=example.com&filter=original:{pattern.replace(' ', '%20').replace('²', '%C2%B2')}"
-            )
+            found = server.ask(f"/cdx?url=example.com&filter=original:{pattern.replace(' ', '%20').replace('²', '%C2%B2')}")
             self.assertEqual(400, found.status, pattern)
             self.assertIn("refused BadFilter: filter=", found.text)
-        self.assertEqual(
-            200,
-            server.ask(
-                "/cdx?url=example.com&filter=timestamp:[0-9]{4}0101[0-9]{6}&filter=digest:[A-Z2-7]{4}"
-            ).status,
-        )
+        self.assertEqual(200, server.ask("/cdx?url=example.com&filter=timestamp:[0-9]{4}0101[0-9]{6}&filter=digest:[A-Z2-7]{4}").status)
         self.assertLess(server.memory() - before, 100 << 20)
 
     def test_patterns_are_kept_nowhere(self) -> None:
@@ -316,9 +295,7 @@ class Requests(Case):
             found = self.server.ask(f"/cdx?{query}")
             self.assertEqual(400, found.status)
             self.assertIn(f": {name}: ", found.text)
-            done = subprocess.run(
-                (PROGRAM, "query", query, self.folder / "index"), stderr=subprocess.PIPE, text=True
-            )
+            done = subprocess.run((PROGRAM, "query", query, self.folder / "index"), stderr=subprocess.PIPE, text=True)
             said = done.stderr.splitlines()
             self.assertEqual(f"warcdx: query: {found.text.split()[1].rstrip(':')}", said[0])
 

@@ -47,11 +47,7 @@ class Http(Shared):
                 self.assertEqual(200, client.response().status)
 
     def test_head_has_the_fields_of_get(self) -> None:
-        for target in (
-            "/cdx?url=example.com",
-            "/cdx?url=example.com&filter=statuscode:2..",
-            "/cdx?url=a&x=1",
-        ):
+        for target in ("/cdx?url=example.com", "/cdx?url=example.com&filter=statuscode:2..", "/cdx?url=a&x=1"):
             found, wanted = self.server.ask(target, "HEAD"), self.server.ask(target)
             self.assertEqual({**wanted.fields, "date": ""}, {**found.fields, "date": ""})
             self.assertEqual((wanted.status, b""), (found.status, found.body))
@@ -71,24 +67,13 @@ class Http(Shared):
     def test_an_answer_that_is_known_is_not_sent(self) -> None:
         target = "/cdx?url=example.com"
         # A time of the last two seconds isn't sent, as other files may get it.
-        self.wait_for(
-            lambda: "last-modified" in self.server.ask(target).fields, "there is no Last-Modified"
-        )
+        self.wait_for(lambda: "last-modified" in self.server.ask(target).fields, "there is no Last-Modified")
         first = self.server.ask(target)
         tag, time = first.fields["etag"], first.fields["last-modified"]
-        for fields in (
-            {"If_None_Match": tag},
-            {"If_None_Match": f'"x", W/{tag}'},
-            {"If_None_Match": "*"},
-            {"If_Modified_Since": time},
-        ):
+        for fields in ({"If_None_Match": tag}, {"If_None_Match": f'"x", W/{tag}'}, {"If_None_Match": "*"}, {"If_Modified_Since": time}):
             found = self.server.ask(target, **fields)
             self.assertEqual((304, b"", tag), (found.status, found.body, found.fields["etag"]))
-        for fields in (
-            {"If_None_Match": '"x"'},
-            {"If_Modified_Since": "Mon, 01 Jan 2001 00:00:00 GMT"},
-            {"If_Modified_Since": "x"},
-        ):
+        for fields in ({"If_None_Match": '"x"'}, {"If_Modified_Since": "Mon, 01 Jan 2001 00:00:00 GMT"}, {"If_Modified_Since": "x"}):
             self.assertEqual(first.body, self.server.ask(target, **fields).body)
         self.assertEqual(400, self.server.ask("/cdx?url=a&x=1", If_None_Match=tag).status)
 
@@ -125,12 +110,7 @@ class Http(Shared):
             with self.subTest(request[:30]), connected(self.server) as client:
                 client.send(request)
                 self.assertIn(client.response().status, statuses)
-        for nothing in (
-            b"",
-            b"\r\n\r\n",
-            b"\0" * 100_000,
-            b"GET /cdx HTTP/1.1\r\nX: " + b"a" * 200_000,
-        ):
+        for nothing in (b"", b"\r\n\r\n", b"\0" * 100_000, b"GET /cdx HTTP/1.1\r\nX: " + b"a" * 200_000):
             with connected(self.server) as client:
                 try:
                     client.send(nothing)
@@ -151,9 +131,7 @@ class Origins(Case):
             self.assertEqual("Origin", found.fields["vary"])
             found = server.ask(target, Origin="https://example.org")
             self.assertNotIn("access-control-allow-origin", found.fields)
-        found = server.ask(
-            "/cdx", "OPTIONS", Origin="https://example.net", Access_Control_Request_Method="GET"
-        )
+        found = server.ask("/cdx", "OPTIONS", Origin="https://example.net", Access_Control_Request_Method="GET")
         self.assertEqual(204, found.status)
         self.assertEqual("https://example.net", found.fields["access-control-allow-origin"])
         self.assertEqual("GET, HEAD, OPTIONS, POST", found.fields["access-control-allow-methods"])
@@ -171,19 +149,14 @@ class Limits(Case):
         found = server.ask("/cdx?url=example.com/*&limit=51&showResumeKey=true").text.splitlines()
         self.assertEqual(("", 52), (found[50], len(found)))
         self.assertEqual(20, len(server.ask("/cdx?url=example.com/*&limit=-20").text.splitlines()))
-        self.assertIn(
-            "in this order it is at most 20", server.ask("/cdx?url=example.com/*&limit=-21").text
-        )
+        self.assertIn("in this order it is at most 20", server.ask("/cdx?url=example.com/*&limit=-21").text)
 
     def test_what_would_hold_too_much_is_refused(self) -> None:
         self.put(lines(100))
         server = self.start(held=99)
         for query, name in (("sort=reverse", "sort"), ("showDupeCount=true", "showDupeCount")):
             found = server.ask(f"/cdx?url=example.com/*&{query}")
-            self.assertEqual(
-                (400, f"refused TooMany: {name}: without limit it is for at most 99 captures\n"),
-                (found.status, found.text),
-            )
+            self.assertEqual((400, f"refused TooMany: {name}: without limit it is for at most 99 captures\n"), (found.status, found.text))
             found = server.ask(f"/cdx?url=example.com/*&{query}&limit=99")
             self.assertEqual(99, len(found.text.splitlines()))
 
@@ -194,20 +167,12 @@ class Limits(Case):
             target = f"/cdx?url=example.com/*&pageSize=1&fl=offset{rest}"
             whole = server.ask(target).body
             count = int(server.ask(f"{target}&showNumPages=true").body)
-            pages = [
-                server.ask(f"{target}&page={number}").body for number in (*range(count), count)
-            ]
+            pages = [server.ask(f"{target}&page={number}").body for number in (*range(count), count)]
             self.assertEqual((whole, b""), (b"".join(pages), pages[-1]))
             self.assertEqual(-(-index.stat().st_size // 900_000), count)
-            backwards = [
-                server.ask(f"{target}&page={number}&filter=length:.*").body
-                for number in reversed(range(count))
-            ]
+            backwards = [server.ask(f"{target}&page={number}&filter=length:.*").body for number in reversed(range(count))]
             self.assertEqual(whole, b"".join(reversed(backwards)))
-        self.assertEqual(
-            self.page("url=example.com/*&fl=offset", index),
-            server.ask("/cdx?url=example.com/*&fl=offset").body,
-        )
+        self.assertEqual(self.page("url=example.com/*&fl=offset", index), server.ask("/cdx?url=example.com/*&fl=offset").body)
 
 
 class Defaults(unittest.TestCase):
@@ -226,12 +191,8 @@ class Starts(Case):
 
     def fails(self, *arguments: str, status: int = 3) -> str:
         command = ("/usr/bin/python3", ROOT / "gateway/bin/warcdx-gateway", *arguments)
-        done = subprocess.run(
-            command, stdout=subprocess.PIPE, stderr=subprocess.PIPE, text=True, timeout=WAIT
-        )
-        self.assertEqual(
-            (status, "", 1), (done.returncode, done.stdout, done.stderr.count("\n")), done.stderr
-        )
+        done = subprocess.run(command, stdout=subprocess.PIPE, stderr=subprocess.PIPE, text=True, timeout=WAIT)
+        self.assertEqual((status, "", 1), (done.returncode, done.stdout, done.stderr.count("\n")), done.stderr)
         return done.stderr
 
     def settings(self, text: str) -> str:
@@ -253,12 +214,7 @@ class Starts(Case):
         nosuch = str(self.folder / "nosuch")
         self.assertIn(nosuch, self.fails("--port", "0", "--program", PROGRAM, "--indexes", nosuch))
         self.assertIn(nosuch, self.fails("--port", "0", "--program", nosuch, "--indexes", index))
-        self.assertIn(
-            nosuch,
-            self.fails(
-                "--port", "0", "--program", PROGRAM, "--indexes", index, "--archives", nosuch
-            ),
-        )
+        self.assertIn(nosuch, self.fails("--port", "0", "--program", PROGRAM, "--indexes", index, "--archives", nosuch))
         self.assertIn(nosuch, self.fails(nosuch))
 
     def test_what_is_no_index_is_named(self) -> None:
@@ -298,27 +254,13 @@ class Starts(Case):
         index = str(self.put(SAMPLE))
         command = f'ulimit -n 64; exec /usr/bin/python3 "{COMMAND}" "$@"'
         arguments = ("--port", "0", "--program", PROGRAM, "--indexes", index)
-        run = subprocess.run(
-            ("sh", "-c", command, "sh", *arguments), capture_output=True, text=True, timeout=60
-        )
+        run = subprocess.run(("sh", "-c", command, "sh", *arguments), capture_output=True, text=True, timeout=60)
         said = "a process may open 64 files, and 129 are needed: raise the limit, as by ulimit -n"
         self.assertEqual((3, "", f"warcdx-gateway: {said}\n"), (run.returncode, run.stdout, run.stderr))
 
     def test_a_used_port_is_named(self) -> None:
-        server = self.run_command(
-            "--port", "0", "--program", PROGRAM, "--indexes", str(self.put(SAMPLE))
-        )
-        self.assertIn(
-            "in use",
-            self.fails(
-                "--port",
-                str(server.address[1]),
-                "--program",
-                PROGRAM,
-                "--indexes",
-                str(self.folder / "index"),
-            ),
-        )
+        server = self.run_command("--port", "0", "--program", PROGRAM, "--indexes", str(self.put(SAMPLE)))
+        self.assertIn("in use", self.fails("--port", str(server.address[1]), "--program", PROGRAM, "--indexes", str(self.folder / "index")))
 
     def test_settings_are_checked(self) -> None:
         good = '[collections.a]\nindexes = ["index"]\n'
@@ -345,10 +287,7 @@ class Starts(Case):
             ('[collections."a/b"]\nindexes = ["a"]', "can't be the name"),
             ("[collections.a]\nindexes = []", "'collections.a.indexes' has to be 1 to 1024 paths"),
             ('[collections.a]\nindexes = "a"', "'collections.a.indexes' has to be a list of texts"),
-            (
-                '[collections.a]\nindexes = ["a"]\nindex = 1',
-                "unknown setting 'collections.a.index'",
-            ),
+            ('[collections.a]\nindexes = ["a"]\nindex = 1', "unknown setting 'collections.a.index'"),
             (f"{good}name = 'b'", "unknown setting 'collections.a.name'"),
             (f"{good}title = 1", "'collections.a.title' has to be a text"),
             (f"{good}archives = [1]", "'collections.a.archives' has to be a list of texts"),
@@ -391,12 +330,8 @@ class Browsers(Case):
             "--dump-dom",
             page.as_uri(),
         )
-        found = subprocess.run(
-            command, stdout=subprocess.PIPE, stderr=subprocess.DEVNULL, timeout=120
-        ).stdout.decode()
-        self.assertIn(
-            "com,example)/a|20150101000000|http://example.com/a|text/plain|503|DDDD|300", found
-        )
+        found = subprocess.run(command, stdout=subprocess.PIPE, stderr=subprocess.DEVNULL, timeout=120).stdout.decode()
+        self.assertIn("com,example)/a|20150101000000|http://example.com/a|text/plain|503|DDDD|300", found)
 
 
 if __name__ == "__main__":

@@ -340,10 +340,7 @@ class Served(Case):
             time.sleep(0.5)
             server.process.kill()
             server.process.wait()
-            self.wait_for(
-                lambda: not any(pathlib.Path(f"/proc/{each}").exists() for each in workers),
-                "workers live on",
-            )
+            self.wait_for(lambda: not any(pathlib.Path(f"/proc/{each}").exists() for each in workers), "workers live on")
 
 
 if __name__ == "__main__":

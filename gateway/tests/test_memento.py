@@ -73,10 +73,7 @@ class Histories(unittest.TestCase):
         rng = random.Random(5)
         for most in (3, 200):
             for _ in range(300):
-                times = sorted(
-                    20160101000000 + rng.randrange(rng.choice((50, 10**6)))
-                    for _ in range(rng.randrange(12))
-                )
+                times = sorted(20160101000000 + rng.randrange(rng.choice((50, 10**6))) for _ in range(rng.randrange(12)))
                 all_captures = [each for each in map(capture, times) if each.datetime]
                 times = sorted({int(each.timestamp) for each in all_captures})
                 asked = 0
@@ -171,11 +168,7 @@ class Examples(support.Pages):
             answer = self.asked(path, Accept_Datetime=date)
             self.assertEqual(status, answer.status_code)
             self.assertEqual("accept-datetime", answer.headers["Vary"])
-        for path in (
-            "/web/timemap/link/http://b.example.org/",
-            "/none/timegate/http://a.example.org/",
-            "/web/2000id_/x",
-        ):
+        for path in ("/web/timemap/link/http://b.example.org/", "/none/timegate/http://a.example.org/", "/web/2000id_/x"):
             self.assertEqual(404, self.asked(path).status_code, path)
         self.assertEqual(405, self.client.post(f"/web/timegate/{ORIGINAL}").status_code)
 
@@ -220,12 +213,7 @@ class Examples(support.Pages):
                 self.assertNotIn("Memento-Datetime", answer.headers)
 
     def test_a_url_is_taken_in_several_spellings(self) -> None:
-        for url in (
-            "a.example.org",
-            "http:/a.example.org/",
-            "http%3A%2F%2Fa.example.org%2F",
-            "https://A.example.org",
-        ):
+        for url in ("a.example.org", "http:/a.example.org/", "http%3A%2F%2Fa.example.org%2F", "https://A.example.org"):
             answer = self.asked(f"/web/timegate/{url}")
             self.assertEqual(f"{ROOT}/{LAST}id_/{ORIGINAL}", answer.headers["Location"], url)
 
@@ -330,12 +318,7 @@ class Raw(support.Pages):
             self.assertEqual("nosniff", headers["X-Content-Type-Options"])
 
     def test_a_capture_has_its_status(self) -> None:
-        for name, status, data in (
-            ("gone", 410, b"gone"),
-            ("odd", 200, b"odd"),
-            ("note", 200, b"a note"),
-            ("chunks", 200, b"<p>one."),
-        ):
+        for name, status, data in (("gone", 410, b"gone"), ("odd", 200, b"odd"), ("note", 200, b"a note"), ("chunks", 200, b"<p>one.")):
             answer = self.raw(f"http://example.com/{name}")
             self.assertEqual((status, data), (answer.status_code, answer.data), name)
             self.assertIn("Memento-Datetime", answer.headers)
@@ -426,7 +409,7 @@ class Raw(support.Pages):
                     continue
                 self.assertEqual((410, "text/html; charset=utf-8"), (answer.status_code, answer.content_type))
                 link = f'<a href="/crawl/{stamp}/http://example.com/next">'.replace('"/', '"http://localhost/')
-                self.assertEqual(f'{link}é</a>', answer.text)
+                self.assertEqual(f"{link}é</a>", answer.text)
                 self.assertTrue(answer.headers["Content-Security-Policy"].startswith("sandbox; default-src 'none'"))
                 self.assertEqual("off", answer.headers["X-DNS-Prefetch-Control"])
                 self.assertIn("Memento-Datetime", answer.headers)
@@ -440,13 +423,7 @@ class Raw(support.Pages):
         answer = self.raw("http://example.com/many")
         self.assertLess(sum(len(name) + len(value) + 4 for name, value in answer.headers), 10_000)
         self.assertEqual(b"many", answer.data)
-        hostile = (
-            ("X Space", "a"),
-            ("", "b"),
-            ("X-\r\nY", "c"),
-            ("X-\u00e9", "d"),
-            ("Good", "e\r\nZ: f\u202e"),
-        )
+        hostile = (("X Space", "a"), ("", "b"), ("X-\r\nY", "c"), ("X-\u00e9", "d"), ("Good", "e\r\nZ: f\u202e"))
         self.assertEqual([("Good", "eZ: f")], list(archived_fields(hostile)))
 
     def test_a_long_payload_is_whole(self) -> None:
@@ -464,9 +441,7 @@ class Seconds(support.Pages):
 
     def fill(self, archives: Archives) -> None:
         lines = [
-            archives.line(
-                "http://example.com/", f"2016030309343{1 + (number > 20) + (number > 470)}", "a.warc", number
-            )
+            archives.line("http://example.com/", f"2016030309343{1 + (number > 20) + (number > 470)}", "a.warc", number)
             for number in range(500)
         ]
         archives.put("index", b"".join(lines))

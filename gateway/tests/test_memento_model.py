@@ -33,10 +33,7 @@ class Model(support.Pages):
             count, most = COUNTS[number % len(COUNTS)], 10 ** self.rng.choice((4, 6, 8))
             seconds = sorted({self.rng.randrange(most) for _ in range(count)})
             self.times.append([START + timedelta(seconds=each) for each in seconds])
-            lines += [
-                archives.line(url_of(number), timestamp(each), "a.warc", at, key=key)
-                for at, each in enumerate(self.times[-1])
-            ]
+            lines += [archives.line(url_of(number), timestamp(each), "a.warc", at, key=key) for at, each in enumerate(self.times[-1])]
         archives.put("index", b"".join(sorted(lines)))
 
     def test_a_time_gate_chooses_as_from_a_list(self) -> None:
@@ -55,11 +52,7 @@ class Model(support.Pages):
             at = times.index(chosen)
             location = f"http://localhost/web/{timestamp(chosen)}id_/{url_of(number)}"
             self.assertEqual(location, answer.headers["Location"])
-            found = {
-                relation: each
-                for each, relations in MEMENTO.findall(answer.headers["Link"])
-                for relation in relations.split()
-            }
+            found = {relation: each for each, relations in MEMENTO.findall(answer.headers["Link"]) for relation in relations.split()}
             expected = {"first": times[0], "last": times[-1]}
             expected.update({"prev": times[at - 1]} if at else {})
             expected.update({"next": times[at + 1]} if at + 1 < len(times) else {})

@@ -54,10 +54,7 @@ def random_captures(chance: random.Random) -> list[Capture]:
             chance.choice(("a.warc", "b c.warc")),
         )
         captures.append(dict(zip(FIELDS, values)))
-    return sorted(
-        captures,
-        key=lambda each: (each["urlkey"], each["timestamp"], each["filename"], int(each["offset"])),
-    )
+    return sorted(captures, key=lambda each: (each["urlkey"], each["timestamp"], each["filename"], int(each["offset"])))
 
 
 def index_of(captures: list[Capture]) -> str:
@@ -88,10 +85,7 @@ def random_request(chance: random.Random, captures: list[Capture]) -> Request:
         match,
         str(chance.randint(2010, 2016)) if has_time else "",
         str(chance.randint(201401, 202212)) if has_time else "",
-        tuple(
-            (*chance.choice(PATTERNS), chance.random() < 0.3)
-            for _ in range(chance.choice((0, 0, 0, 1, 1, 2)))
-        ),
+        tuple((*chance.choice(PATTERNS), chance.random() < 0.3) for _ in range(chance.choice((0, 0, 0, 1, 1, 2)))),
         tuple(chance.choice(COLLAPSES) for _ in range(chance.choice((0, 0, 0, 1, 1, 2)))),
         limit,
         order,
@@ -130,12 +124,7 @@ class Random(Case):
         self.assertGreater(results["right"], REQUESTS * 0.7)
 
     def ask_all(
-        self,
-        server: Server,
-        captures: list[Capture],
-        requests: list[Request],
-        results: dict[str, int],
-        chance: random.Random,
+        self, server: Server, captures: list[Capture], requests: list[Request], results: dict[str, int], chance: random.Random
     ) -> int:
         is_over, lock, wrong = threading.Event(), threading.Lock(), list[str]()
         left = iter(requests)

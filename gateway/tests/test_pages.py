@@ -30,26 +30,9 @@ QUERIES = (
     ("url=example.com/*&has=mimetype:ref&hasnot=digest:No&isnot=offset:9", "text/plain"),
     ("url=example.com&matchType=domain", "text/plain"),
 )
-VALUES = (
-    (".", "."),
-    ("refused", "NoUrl"),
-    ("refused", "BadLimit"),
-    ("text/html", "."),
-    ("fault", "refused"),
-)
+VALUES = ((".", "."), ("refused", "NoUrl"), ("refused", "BadLimit"), ("text/html", "."), ("fault", "refused"))
 HOSTILE = "".join(
-    LINE
-    % (
-        f"com,example)/{name}",
-        "20160101000000",
-        f"http://example.com/{name}",
-        mime,
-        "200",
-        digest,
-        1,
-        number,
-        "a.warc",
-    )
+    LINE % (f"com,example)/{name}", "20160101000000", f"http://example.com/{name}", mime, "200", digest, 1, number, "a.warc")
     for number, (name, (mime, digest)) in enumerate(zip("abcde", VALUES))
 )
 # Values with each escape of JSON, in the spelling of an index, and a line of another program.
@@ -72,26 +55,12 @@ class Pages(Shared):
                     self.assertTrue(found.fields["content-type"].startswith(kind))
 
     def test_curl_encodes_the_query(self) -> None:
-        command = [
-            "curl",
-            "--silent",
-            "--get",
-            f"{self.server.url}/cdx",
-            "--data-urlencode",
-            "url=example.com/*",
-        ]
+        command = ["curl", "--silent", "--get", f"{self.server.url}/cdx", "--data-urlencode", "url=example.com/*"]
         command += ["--data-urlencode", "has=digest:refused", "--data", "fl=urlkey"]
-        self.assertEqual(
-            b"com,example)/e\n", subprocess.run(command, stdout=subprocess.PIPE, check=True).stdout
-        )
+        self.assertEqual(b"com,example)/e\n", subprocess.run(command, stdout=subprocess.PIPE, check=True).stdout)
 
     def test_wget_gets_the_page(self) -> None:
-        command = [
-            "wget",
-            "--quiet",
-            "--output-document=-",
-            f"{self.server.url}/cdx?url=example.com/*&output=json",
-        ]
+        command = ["wget", "--quiet", "--output-document=-", f"{self.server.url}/cdx?url=example.com/*&output=json"]
         found = subprocess.run(command, stdout=subprocess.PIPE, check=True).stdout
         self.assertEqual(self.page("url=example.com/*&output=json"), found)
 
@@ -101,43 +70,20 @@ class Changed(Shared):
     holds changes nothing.
     """
 
-    captures = (
-        HOSTILE
-        + LINE % ("com,example)/ee", "20160101000000", ESCAPED, "a b", "-", "x", 1, 3, "a.warc")
-        + OTHER
-    )
+    captures = HOSTILE + LINE % ("com,example)/ee", "20160101000000", ESCAPED, "a b", "-", "x", 1, 3, "a.warc") + OTHER
 
     def test_rows_are_written_as_by_the_program(self) -> None:
         for output in ("text", "json", "cdxj"):
-            for fields in (
-                "",
-                "&fl=urlkey,timestamp,original,mimetype,statuscode,digest,length,offset,filename",
-                "&fl=original",
-            ):
-                for rest in (
-                    "",
-                    "&limit=3&showResumeKey=true",
-                    "&limit=7&showResumeKey=true",
-                    "&limit=99",
-                    "&collapse=timestamp:4",
-                ):
+            for fields in ("", "&fl=urlkey,timestamp,original,mimetype,statuscode,digest,length,offset,filename", "&fl=original"):
+                for rest in ("", "&limit=3&showResumeKey=true", "&limit=7&showResumeKey=true", "&limit=99", "&collapse=timestamp:4"):
                     query = f"url=example.com/*&output={output}{fields}{rest}"
                     with self.subTest(query):
                         found = self.server.ask(f"/cdx?{query}&filter=offset:.*")
                         self.assertEqual((200, self.page(query)), (found.status, found.body))
 
     def test_values_of_other_programs_are_read_as_by_the_program(self) -> None:
-        for field in (
-            "offset:7",
-            "statuscode:2.0",
-            "length:-?",
-            "digest:-",
-            "original:-",
-            "filename:x y.*",
-        ):
-            found = self.server.ask(
-                f"/cdx?url=example.com/f&filter={field.replace(' ', '%20')}&output=cdxj"
-            )
+        for field in ("offset:7", "statuscode:2.0", "length:-?", "digest:-", "original:-", "filename:x y.*"):
+            found = self.server.ask(f"/cdx?url=example.com/f&filter={field.replace(' ', '%20')}&output=cdxj")
             self.assertEqual(OTHER.encode(), found.body, field)
 
 
@@ -174,9 +120,7 @@ class Long(Case):
 
     def test_several_indexes_are_one(self) -> None:
         first, second = self.put(lines(300), "first"), self.put(lines(500, status=404), "second")
-        server = self.start(
-            '[collections.both]\nindexes = ["first", "second"]\n[collections.other]\nindexes = ["second"]\n'
-        )
+        server = self.start('[collections.both]\nindexes = ["first", "second"]\n[collections.other]\nindexes = ["second"]\n')
         query = "url=example.com/*&fl=offset,statuscode"
         self.assertEqual(self.page(query, first, second), server.ask(f"/cdx?{query}").body)
         self.assertEqual(self.page(query, first, second), server.ask(f"/both/cdx?{query}").body)

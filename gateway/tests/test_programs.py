@@ -55,10 +55,7 @@ class Programs(Case):
 
     def test_a_killed_program_changes_no_revisit(self) -> None:
         first = LINE % ("a", "20160101000000", "a", "text/html", "200", "AAAA", 1, 0, "a.warc")
-        others = (
-            LINE % ("a", 20160102000000 + n, "a", "warc/revisit", "-", "AAAA", 1, n, "a.warc")
-            for n in range(REVISITS)
-        )
+        others = (LINE % ("a", 20160102000000 + n, "a", "warc/revisit", "-", "AAAA", 1, n, "a.warc") for n in range(REVISITS))
         self.put(first + "".join(others))
         server = self.start()
         targets = {
@@ -79,9 +76,7 @@ class Programs(Case):
         server = self.start(program=self.program(ALL_IN_ORDER))
         for rest in ("", "&output=json", "&output=cdxj", "&filter=offset:.*", "&limit=-1"):
             found = server.ask(f"/cdx?key=&matchType=prefix{rest}")
-            self.assertEqual(
-                (500, f"fault OutOfOrder 0 {len(first)}\n"), (found.status, found.text)
-            )
+            self.assertEqual((500, f"fault OutOfOrder 0 {len(first)}\n"), (found.status, found.text))
         self.assertEqual((200, b""), server.ask("/cdx?key=d")[::2])
 
     def test_lines_out_of_order_are_found_where_query_finds_them(self) -> None:
@@ -101,9 +96,7 @@ class Programs(Case):
         server = self.start(program=self.program(ALL_IN_ORDER))
         for rest in ("", "&filter=statuscode:2..", "&collapse=digest"):
             found = server.ask(ALL + rest)
-            self.assertEqual(
-                (500, f"fault OutOfOrder 0 {offset}\n"), (found.status, found.text), rest
-            )
+            self.assertEqual((500, f"fault OutOfOrder 0 {offset}\n"), (found.status, found.text), rest)
         for rest in ("&limit=-3", "&sort=reverse", "&page=0", "&showNumPages=true"):
             found = server.ask(ALL + rest)
             self.assertEqual(500, found.status, rest)
@@ -131,7 +124,7 @@ class Programs(Case):
 
     def test_a_query_that_takes_too_long_is_ended(self) -> None:
         self.put(SAMPLE)
-        answers = 'case $line in *example.com*) exec sleep 600;; esac; echo refused NoUrl; echo .'
+        answers = "case $line in *example.com*) exec sleep 600;; esac; echo refused NoUrl; echo ."
         rule = f'[ "$1" != serve ] || {{ while read -r line; do {answers}; done; exit; }}'
         server = self.start(program=self.program(rule), query=1)
         found = server.ask("/cdx?url=example.com")
@@ -163,10 +156,7 @@ class Indexes(Case):
         self.put(lines(3000))
         server = self.start()
         texts = {status: lines(3000, status) for status in (200, 404)}
-        wanted = {
-            self.page("url=example.com/*", self.put(text, str(status)))
-            for status, text in texts.items()
-        }
+        wanted = {self.page("url=example.com/*", self.put(text, str(status))) for status, text in texts.items()}
         wrong: list[tuple[int, bytes]] = []
         asked: list[str] = []
         is_over = threading.Event()

@@ -240,9 +240,7 @@ class Replay(unittest.TestCase):
         self.assertEqual(wanted.location, answer.headers.get("Location", "").removeprefix("http://localhost"), shown)
         self.assertIn("sandbox", answer.headers["Content-Security-Policy"])
 
-    def compare_again(
-        self, client: Client, found: Capture, answer: TestResponse, fields: dict[str, str], chance: random.Random
-    ) -> None:
+    def compare_again(self, client: Client, found: Capture, answer: TestResponse, fields: dict[str, str], chance: random.Random) -> None:
         """Asks for a part of it, and for it if it has changed."""
         target, whole = f"/crawl/{found.stamp}id_/{found.url}", answer.get_data()
         tag = answer.headers["ETag"]

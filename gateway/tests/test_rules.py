@@ -205,7 +205,9 @@ class Random(unittest.TestCase):
             name = f"{number}.warc" + ".gz" * (number % 2)
             self.archives.add(name, records(self.chance, 100))
         texts = [path.read_text().splitlines() for path in self.archives.indexes]
-        self.lines = sorted(map(line_of, sum(texts, [])), key=lambda line: (line.key.encode(), line.timestamp, line.filename, int(line.offset)))
+        self.lines = sorted(
+            map(line_of, sum(texts, [])), key=lambda line: (line.key.encode(), line.timestamp, line.filename, int(line.offset))
+        )
         patched = mock.patch("warcdx_gateway.rules.today", return_value=TODAY)
         patched.start()
         self.addCleanup(patched.stop)
@@ -335,9 +337,7 @@ class Served(Case):
                 path.unlink()
             else:
                 path.write_text(broken)
-            self.wait_for(
-                lambda: server.said.read_text().count("the old rules stay in use") > count, "nothing is said"
-            )
+            self.wait_for(lambda: server.said.read_text().count("the old rules stay in use") > count, "nothing is said")
             for worker in server.workers():
                 os.kill(worker, 9)
             self.wait_for(lambda: len(server.workers()) == 3, "no workers")
@@ -349,9 +349,7 @@ class Served(Case):
     def test_a_gateway_does_not_start_with_broken_rules(self) -> None:
         self.put(SAMPLE)
         path = self.put("[", "rules.toml")
-        settings = self.put(
-            f'port = 0\nprogram = "{PROGRAM}"\nrules = "rules.toml"\n[collections.main]\nindexes = ["index"]\n', "settings"
-        )
+        settings = self.put(f'port = 0\nprogram = "{PROGRAM}"\nrules = "rules.toml"\n[collections.main]\nindexes = ["index"]\n', "settings")
         server = self.run_command(str(settings))
         self.assertEqual(1, server.process.wait(60))
         self.assertIn(f"warcdx-gateway: {path}: ", server.said.read_text())
@@ -363,16 +361,12 @@ class Served(Case):
         tag = server.ask("/cdx?url=example.com").fields["etag"]
         self.assertEqual(304, server.ask("/cdx?url=example.com", If_None_Match=tag).status)
         path.write_text('[[rules]]\naction = "exclude"\nhost = "example.com"\n')
-        self.wait_for(
-            lambda: server.ask("/cdx?url=example.com", If_None_Match=tag).status == 200, "it is an old answer"
-        )
+        self.wait_for(lambda: server.ask("/cdx?url=example.com", If_None_Match=tag).status == 200, "it is an old answer")
         self.assertEqual(b"", server.ask("/cdx?url=example.com", If_None_Match=tag).body)
 
 
 class Unlisted(Shared):
-    settings = (
-        '[collections.open]\nindexes = ["index"]\n[collections.private]\nindexes = ["index"]\nlisted = false\n'
-    )
+    settings = '[collections.open]\nindexes = ["index"]\n[collections.private]\nindexes = ["index"]\nlisted = false\n'
 
     def test_it_is_in_no_list(self) -> None:
         for path in ("/", "/browse", "/collinfo.json"):

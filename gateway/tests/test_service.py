@@ -30,28 +30,16 @@ class Unit(Case):
         if shutil.which("systemd-analyze") is None:
             self.skipTest("systemd-analyze is missing (Debian's package systemd)")
         unit = self.put(
-            self.text.replace("/usr/bin/warcdx-gateway", str(COMMAND)).replace(
-                "Documentation=man:warcdx-gateway(1)\n", ""
-            ),
+            self.text.replace("/usr/bin/warcdx-gateway", str(COMMAND)).replace("Documentation=man:warcdx-gateway(1)\n", ""),
             "warcdx-gateway.service",
         )
-        done = subprocess.run(
-            ("systemd-analyze", "verify", "--man=no", unit),
-            stdout=subprocess.PIPE,
-            stderr=subprocess.STDOUT,
-            text=True,
-        )
-        self.assertEqual(
-            [], [line for line in done.stdout.splitlines() if "warcdx-gateway.service" in line]
-        )
+        done = subprocess.run(("systemd-analyze", "verify", "--man=no", unit), stdout=subprocess.PIPE, stderr=subprocess.STDOUT, text=True)
+        self.assertEqual([], [line for line in done.stdout.splitlines() if "warcdx-gateway.service" in line])
 
     def test_the_line_of_the_unit_reports_when_it_answers(self) -> None:
         """As systemd starts it, with a socket for its state. It is reloaded as systemd does it."""
         self.put(SAMPLE)
-        settings = self.put(
-            f'port = 0\nprogram = "{PROGRAM}"\nworkers = 2\n[collections.main]\nindexes = ["index"]\n',
-            "gateway.toml",
-        )
+        settings = self.put(f'port = 0\nprogram = "{PROGRAM}"\nworkers = 2\n[collections.main]\nindexes = ["index"]\n', "gateway.toml")
         (line,) = (each for each in self.text.splitlines() if each.startswith("ExecStart="))
         self.assertEqual("ExecStart=/usr/bin/warcdx-gateway /etc/warcdx/gateway.toml", line)
         self.assertIn("\nExecReload=/bin/kill -HUP $MAINPID\n", self.text)
@@ -59,10 +47,7 @@ class Unit(Case):
             states.bind(str(self.folder / "notify"))
             states.settimeout(WAIT)
             process = subprocess.Popen(
-                (COMMAND, settings),
-                env={**os.environ, "NOTIFY_SOCKET": str(self.folder / "notify")},
-                stdout=subprocess.PIPE,
-                text=True,
+                (COMMAND, settings), env={**os.environ, "NOTIFY_SOCKET": str(self.folder / "notify")}, stdout=subprocess.PIPE, text=True
             )
             server = Server(process, self.folder / "said")
             self.addCleanup(server.end)
@@ -86,16 +71,12 @@ class Unit(Case):
 
 
 @unittest.skipIf(
-    NGINX is None or shutil.which("openssl") is None,
-    "nginx or openssl is missing (Debian's packages nginx-light and openssl)",
+    NGINX is None or shutil.which("openssl") is None, "nginx or openssl is missing (Debian's packages nginx-light and openssl)"
 )
 class Nginx(Case):
     def setUp(self) -> None:
         super().setUp()
-        self.index = self.put(
-            SAMPLE.rpartition("org,example")[0]
-            + lines(20_000).replace("com,example)/", "com,example,z)/")
-        )
+        self.index = self.put(SAMPLE.rpartition("org,example")[0] + lines(20_000).replace("com,example)/", "com,example,z)/"))
         head = 'hosts = ["cdx.example.org"]\norigins = ["https://example.net"]\n'
         self.server = self.start(head=head, program=self.program(ALL_IN_ORDER))
         self.port = free_port()
@@ -110,22 +91,15 @@ class Nginx(Case):
         ):
             self.assertIn(old, text)
             text = text.replace(old, new)
-        folders = "".join(
-            f"{name}_temp_path {self.folder}/{name};\n"
-            for name in ("client_body", "proxy", "fastcgi", "uwsgi", "scgi")
-        )
+        folders = "".join(f"{name}_temp_path {self.folder}/{name};\n" for name in ("client_body", "proxy", "fastcgi", "uwsgi", "scgi"))
         main = self.put(
             f"daemon off;\nmaster_process off;\nworker_processes 1;\npid {self.folder}/pid;\nerror_log {self.folder}/errors;\n"
             f"events {{}}\nhttp {{\naccess_log off;\n{folders}{text}}}\n",
             "nginx.conf",
         )
-        process = subprocess.Popen(
-            (str(NGINX), "-p", self.folder, "-c", main), stderr=subprocess.PIPE
-        )
+        process = subprocess.Popen((str(NGINX), "-p", self.folder, "-c", main), stderr=subprocess.PIPE)
         self.addCleanup(self.end, process)
-        self.wait_for(
-            lambda: self.curl("/health", "--user", "reader:word")[0] == 200, "nginx doesn't answer"
-        )
+        self.wait_for(lambda: self.curl("/health", "--user", "reader:word")[0] == 200, "nginx doesn't answer")
 
     @staticmethod
     def end(process: "subprocess.Popen[bytes]") -> None:
@@ -155,9 +129,7 @@ class Nginx(Case):
             stderr=subprocess.DEVNULL,
             check=True,
         )
-        done = subprocess.run(
-            ("openssl", "passwd", "-apr1", "word"), stdout=subprocess.PIPE, check=True
-        )
+        done = subprocess.run(("openssl", "passwd", "-apr1", "word"), stdout=subprocess.PIPE, check=True)
         self.put("reader:" + done.stdout.decode(), "users")
 
     def curl(self, target: str, *words: str) -> tuple[int, bytes]:
@@ -183,17 +155,10 @@ class Nginx(Case):
         self.assertEqual(401, self.curl("/cdx?url=example.com/a")[0])
         self.assertEqual(401, self.curl("/cdx?url=example.com/a", "--user", "reader:other")[0])
         self.assertEqual((200, b"300\n"), self.curl("/cdx?url=example.com/a&fl=length", *reader))
+        self.assertEqual((200, self.page("url=z.example.com/*")), self.curl("/main/cdx?url=z.example.com/*", *reader))
+        self.assertEqual((200, self.page("url=z.example.com/*")), self.curl("/main/cdx?url=z.example.com/*", "--compressed", *reader))
         self.assertEqual(
-            (200, self.page("url=z.example.com/*")),
-            self.curl("/main/cdx?url=z.example.com/*", *reader),
-        )
-        self.assertEqual(
-            (200, self.page("url=z.example.com/*")),
-            self.curl("/main/cdx?url=z.example.com/*", "--compressed", *reader),
-        )
-        self.assertEqual(
-            (200, self.page("url=z.example.com/*")),
-            self.curl("/main/cdx?url=z.example.com/*&gzip=false", "--compressed", *reader),
+            (200, self.page("url=z.example.com/*")), self.curl("/main/cdx?url=z.example.com/*&gzip=false", "--compressed", *reader)
         )
         preflight = ("--request", "OPTIONS", "--header", "Origin: https://example.net")
         self.assertEqual(204, self.curl("/cdx", *preflight)[0])
@@ -205,10 +170,7 @@ class Nginx(Case):
 
     def test_answers_are_compressed_for_clients_that_say_so(self) -> None:
         target, reader = "/cdx?url=z.example.com/*", ("--user", "reader:word", "--include")
-        for words, is_compressed in (
-            (("--header", "Accept-Encoding: gzip"), True),
-            (("--header", "Accept-Encoding: identity"), False),
-        ):
+        for words, is_compressed in ((("--header", "Accept-Encoding: gzip"), True), (("--header", "Accept-Encoding: identity"), False)):
             text = self.curl(target, *reader, *words)[1].partition(b"\r\n\r\n")[0].decode()
             self.assertEqual(is_compressed, "Content-Encoding: gzip" in text, text)
             self.assertIn("Vary: Accept-Encoding", text)
@@ -225,10 +187,7 @@ class Nginx(Case):
 
     def test_a_broken_answer_is_seen(self) -> None:
         middle = LINE % ("com,example)/0", "20160101000000", "a", "-", "-", "-", 1, 0, "a.warc")
-        os.replace(
-            self.put(lines(30_000) + middle + lines(30_000).replace("com,", "dom,"), "new"),
-            self.index,
-        )
+        os.replace(self.put(lines(30_000) + middle + lines(30_000).replace("com,", "dom,"), "new"), self.index)
         # Each worker sees the index a moment later. 18 is CURLE_PARTIAL_FILE.
         self.wait_for(lambda: self.broken() == 18, "no answer is seen to be broken")
 
@@ -243,10 +202,7 @@ class Nginx(Case):
         count, silent = 12, list[socket.socket]()  # of 20 connections of an address
         context = ssl.create_default_context(cafile=str(self.folder / "cert.pem"))
         word = base64.b64encode(b"reader:word").decode()
-        request = (
-            "GET /cdx?url=z.example.com/* HTTP/1.1\r\nHost: cdx.example.org\r\n"
-            f"Authorization: Basic {word}\r\n\r\n"
-        )
+        request = "GET /cdx?url=z.example.com/* HTTP/1.1\r\nHost: cdx.example.org\r\n" f"Authorization: Basic {word}\r\n\r\n"
         for number in range(count):
             plain = socket.create_connection(("127.0.0.1", self.port), timeout=WAIT)
             client = context.wrap_socket(plain, server_hostname="cdx.example.org")

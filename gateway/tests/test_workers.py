@@ -78,19 +78,14 @@ class Workers(Case):
 
     def test_memory_of_a_worker_is_limited(self) -> None:
         """An answer that takes more is refused, and the next one is answered."""
-        text = "".join(
-            LINE % ("a", 20160101000000 + n, "x" * 30_000, "-", "-", "-", 1, n, "a.warc")
-            for n in range(15_000)
-        )
+        text = "".join(LINE % ("a", 20160101000000 + n, "x" * 30_000, "-", "-", "-", 1, n, "a.warc") for n in range(15_000))
         self.put(text)
         memory = 256 << 20
         server = self.start(head=f"workers = 3\nwide = 2\nmemory = {memory}\n")
         found = server.ask("/cdx?key=a&sort=reverse&fl=original")
         self.assertEqual(400, found.status)
         self.assertIn("refused TooLarge", found.text)
-        self.assertEqual(
-            (200, b"14999\n"), server.ask("/cdx?key=a&sort=reverse&limit=1&fl=offset")[::2]
-        )
+        self.assertEqual((200, b"14999\n"), server.ask("/cdx?key=a&sort=reverse&limit=1&fl=offset")[::2])
         self.assertLess(server.memory(), 3 * memory)
         self.assertNotIn("Traceback", server.said.read_text())
 
@@ -161,10 +156,7 @@ class Ends(Case):
             before = server.said.read_text().count("\n")
             settings.write_text(bad)
             server.process.send_signal(signal.SIGHUP)
-            self.wait_for(
-                lambda: server.said.read_text().count("\n") == before + 1,
-                f"it says {server.said.read_text()}",
-            )
+            self.wait_for(lambda: server.said.read_text().count("\n") == before + 1, f"it says {server.said.read_text()}")
             self.assertLess(len(server.ask(ALL).body), 10_000)
         self.assertEqual(3, server.said.read_text().count("the old settings stay in use"))
         self.assertEqual(0, server.end())
@@ -182,13 +174,8 @@ class Ends(Case):
             self.assertGreater(len(processes), 3)
             server.process.send_signal(number)
             server.process.wait(WAIT)
-            self.wait_for(
-                lambda: not any(pathlib.Path(f"/proc/{each}").exists() for each in processes),
-                "processes are left",
-            )
-            self.wait_for(
-                lambda: not list(self.folder.glob("warcdx-gateway-*")), "a folder is left"
-            )
+            self.wait_for(lambda: not any(pathlib.Path(f"/proc/{each}").exists() for each in processes), "processes are left")
+            self.wait_for(lambda: not list(self.folder.glob("warcdx-gateway-*")), "a folder is left")
 
 
 if __name__ == "__main__":

@@ -107,9 +107,7 @@ def rows_of_arrays(groups: Iterator[list[bytes]]) -> Iterator[bytes]:
         names = 0
 
 
-def forward(
-    plan: Plan, selection: Selection, limit: Optional[int], stretch: Optional[Stretch] = None
-) -> Iterator[bytes]:
+def forward(plan: Plan, selection: Selection, limit: Optional[int], stretch: Optional[Stretch] = None) -> Iterator[bytes]:
     """Yields captures in the order of the index, of a stretch of it if there is one."""
     writer = WRITERS[plan.output](plan.fields)
     left, has_more, last = limit, False, None
@@ -200,9 +198,7 @@ def ordered(plan: Plan, selection: Selection, numbers: Sequence[int]) -> Iterato
     yield writer.end(None)
 
 
-def arranged(
-    groups: Iterable[list[Row]], numbers: Sequence[int], first: int
-) -> Iterator[list[Row]]:
+def arranged(groups: Iterable[list[Row]], numbers: Sequence[int], first: int) -> Iterator[list[Row]]:
     """Yields the captures with these numbers, in the order of these. It holds no others.
 
     `groups` are captures from the number `first` on.

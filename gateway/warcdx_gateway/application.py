@@ -38,22 +38,9 @@ BAD_BODIES = (ChunkMissingTerminator, InvalidChunkSize, NoMoreData)
 # What links begin with, as browsers read it: no other character may stand in it.
 HOST = re.compile(r"([A-Za-z0-9._-]+|\[[0-9A-Fa-f:.]+\])(:[0-9]{1,5})?")
 FORM = "application/x-www-form-urlencoded"
-KINDS = {
-    Output.TEXT: TEXT,
-    Output.JSON: "application/json",
-    Output.CDXJ: TEXT,
-    Output.LINES: "text/x-ndjson; charset=utf-8",
-}
+KINDS = {Output.TEXT: TEXT, Output.JSON: "application/json", Output.CDXJ: TEXT, Output.LINES: "text/x-ndjson; charset=utf-8"}
 # The paths of the main collection in the form of the Internet Archive.
-WAYBACK_PATHS = (
-    "/cdx",
-    "/cdx/search",
-    "/cdx/search/cdx",
-    "/cdx/search/xd",
-    "/web/timemap",
-    "/web/timemap/cdx",
-    "/web/timemap/json",
-)
+WAYBACK_PATHS = ("/cdx", "/cdx/search", "/cdx/search/cdx", "/cdx/search/xd", "/web/timemap", "/web/timemap/cdx", "/web/timemap/json")
 MODULES = ("memento", "clients", "browse")  # each has `rules()`
 MOST_BODY = 1 << 17  # bytes of a request
 MOST_PATHS = 64  # whose rules are remembered
@@ -87,14 +74,7 @@ class GatewayRequest(Request):
 class Gateway:
     """Answers requests from collections."""
 
-    def __init__(
-        self,
-        settings: Settings,
-        collections: Mapping[str, Collection],
-        metrics: Metrics,
-        board: Board,
-        rules: Board,
-    ) -> None:
+    def __init__(self, settings: Settings, collections: Mapping[str, Collection], metrics: Metrics, board: Board, rules: Board) -> None:
         self.settings = settings
         self.collections = collections
         self.main = collections[settings.main]
@@ -144,10 +124,7 @@ class Gateway:
         """Returns whether all collections have the files of the master."""
         text = self._board.read()
         if text != self._followed:
-            followed = [
-                self.collections[name].follow(self._board.owner, state)
-                for name, state in json.loads(text).items()
-            ]
+            followed = [self.collections[name].follow(self._board.owner, state) for name, state in json.loads(text).items()]
             self._followed = text if all(followed) else b""
         return bool(self._followed) or not text
 
@@ -168,9 +145,7 @@ class Gateway:
         groups = self.source(collection).values(query, limit=limit, most=Action.SHOW)
         return [Capture.of(values) for group in groups for values in group]
 
-    def first_of_keys(
-        self, collection: Collection, after: str, query: str, limit: int
-    ) -> list[Capture]:
+    def first_of_keys(self, collection: Collection, after: str, query: str, limit: int) -> list[Capture]:
         """Returns the first capture of each key that a query selects, of the first `limit` keys.
 
         `after` is the place that the query has as its resume key: its key was given before.
@@ -187,13 +162,7 @@ class Gateway:
                     return found
         return found
 
-    def answer(
-        self,
-        request: GatewayRequest,
-        collection: Collection,
-        form: Form,
-        query: Optional[str] = None,
-    ) -> WSGIApplication:
+    def answer(self, request: GatewayRequest, collection: Collection, form: Form, query: Optional[str] = None) -> WSGIApplication:
         """Answers a query, by default that of the request, in a form of its parameters."""
         text = translated(request.query_text if query is None else query)
         plan = plan_of(text, form, self.settings.limits, not collection.rules)
@@ -392,9 +361,7 @@ def show_metrics(gateway: Gateway) -> Response:
     return Response(gateway.metrics.text(), content_type=kind)
 
 
-def streamed(
-    pieces: Generator[bytes, None, None], headers: Headers, work: Work
-) -> WSGIApplication:
+def streamed(pieces: Generator[bytes, None, None], headers: Headers, work: Work) -> WSGIApplication:
     """Returns an answer whose pieces are made when they are sent.
 
     The first ones are made at once. So what fails until then has a status, and a short answer has

@@ -47,9 +47,7 @@ class Check:
     `memory` bytes of address space. The constructor raises an Error of the package, or OSError.
     """
 
-    def __init__(
-        self, program: str, memory: int, names: Sequence[str], paths: Sequence[str]
-    ) -> None:
+    def __init__(self, program: str, memory: int, names: Sequence[str], paths: Sequence[str]) -> None:
         self._names = names
         self._paths = paths
         self._found = b""
@@ -128,9 +126,7 @@ def _forked(output: socket.socket, command: tuple[str, ...], memory: int) -> int
     return process
 
 
-def _run_and_exit(
-    output: socket.socket, command: tuple[str, ...], memory: int, parent: int
-) -> NoReturn:
+def _run_and_exit(output: socket.socket, command: tuple[str, ...], memory: int, parent: int) -> NoReturn:
     """Is the process between, which takes no part in what the master does for signals."""
     with contextlib.suppress(BaseException):
         for number in signal.valid_signals():

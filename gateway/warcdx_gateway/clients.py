@@ -25,10 +25,7 @@ from .refusal import Refusal
 
 JSON = "application/json"
 XML = "text/xml; charset=utf-8"
-CDX11 = (
-    "urlkey,timestamp,original,mimetype,statuscode,digest,redirect,robotflags,"
-    "length,offset,filename"
-)
+CDX11 = "urlkey,timestamp,original,mimetype,statuscode,digest,redirect,robotflags," "length,offset,filename"
 # The elements of a result of an XML query, and the fields that they have.
 CAPTURE_MEMBERS = {
     "compressedoffset": "offset",
@@ -82,9 +79,7 @@ def _wayback(gateway: Gateway, request: GatewayRequest) -> WSGIApplication:
     return gateway.answer(request, gateway.main, Form.WAYBACK, query)
 
 
-def _answer(
-    form: Optional[Form], gateway: Gateway, request: GatewayRequest, collection: str
-) -> WSGIApplication:
+def _answer(form: Optional[Form], gateway: Gateway, request: GatewayRequest, collection: str) -> WSGIApplication:
     """Answers in a form, or else in that of the collection. pywb has a TimeMap as output=link."""
     found = gateway.collection(collection)
     form = form or Form(found.settings.form)
@@ -94,9 +89,7 @@ def _answer(
     return gateway.answer(request, found, form)
 
 
-def _time_map_in(
-    output: str, gateway: Gateway, request: GatewayRequest, url: str, collection: str = ""
-) -> WSGIApplication:
+def _time_map_in(output: str, gateway: Gateway, request: GatewayRequest, url: str, collection: str = "") -> WSGIApplication:
     """Lists the captures of a URL, in the form of the collection."""
     found = gateway.collection(collection)
     resource = memento.Resource(gateway, request, collection, memento.url_of(request, 3))
@@ -113,12 +106,7 @@ def collinfo(gateway: Gateway, request: Request) -> Response:
     """Lists the collections as Common Crawl does."""
     root = request.root_url.rstrip("/")
     found = [
-        {
-            "id": each.name,
-            "name": each.title,
-            "timegate": f"{root}/{each.name}/",
-            "cdx-api": f"{root}/{each.name}-index",
-        }
+        {"id": each.name, "name": each.title, "timegate": f"{root}/{each.name}/", "cdx-api": f"{root}/{each.name}-index"}
         for each in gateway.listed
     ]
     return Response(json.dumps(found, ensure_ascii=False, indent=1) + "\n", content_type=JSON)
@@ -178,9 +166,7 @@ def xml_query(gateway: Gateway, collection: Collection, sent: "MultiDict[str, st
 
 
 def _elements(members: Mapping[str, str]) -> str:
-    return "".join(
-        f"<{name}>{escape(_NOT_XML.sub('_', value))}</{name}>" for name, value in members.items()
-    )
+    return "".join(f"<{name}>{escape(_NOT_XML.sub('_', value))}</{name}>" for name, value in members.items())
 
 
 def available(gateway: Gateway, request: GatewayRequest) -> Response:
@@ -199,9 +185,7 @@ def available(gateway: Gateway, request: GatewayRequest) -> Response:
     return Response(json.dumps(found, ensure_ascii=False) + "\n", content_type=JSON)
 
 
-def _available(
-    gateway: Gateway, request: Request, given: "MultiDict[str, str]"
-) -> dict[str, object]:
+def _available(gateway: Gateway, request: Request, given: "MultiDict[str, str]") -> dict[str, object]:
     url, timestamp = given.get("url", ""), given.get("timestamp", "")
     if not url:
         raise Refusal("NoUrl", "url", "it is missing")
@@ -222,12 +206,7 @@ def _available(
         found = (choose(each, wanted) for each in histories)
         nearest = nearest_of(found, wanted)
         if nearest is not None:
-            closest = {
-                "status": nearest.statuscode,
-                "available": True,
-                "url": resource.memento(nearest),
-                "timestamp": nearest.timestamp,
-            }
+            closest = {"status": nearest.statuscode, "available": True, "url": resource.memento(nearest), "timestamp": nearest.timestamp}
             answer["archived_snapshots"] = {"closest": closest}
     return answer
 

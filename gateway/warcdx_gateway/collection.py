@@ -39,9 +39,7 @@ class Collection:
     `is_old` says that other files have got the names and aren't in use, and `is_usable` is False if the files in use are known not to be in order.
     """
 
-    def __init__(
-        self, each: CollectionSettings, settings: Settings, generation: Generation
-    ) -> None:
+    def __init__(self, each: CollectionSettings, settings: Settings, generation: Generation) -> None:
         self.name = each.name
         self.title = each.title
         self.settings = each
@@ -210,11 +208,7 @@ class Source:
         # A page ends with a line feed.
 
     def values(
-        self,
-        query: str,
-        fields: Sequence[str] = FIELDS,
-        limit: Optional[int] = None,
-        most: Action = Action.METADATA,
+        self, query: str, fields: Sequence[str] = FIELDS, limit: Optional[int] = None, most: Action = Action.METADATA
     ) -> Generator[list[list[str]], None, None]:
         """Yields the values of these fields of each capture that may be shown, of the first `limit`.
 

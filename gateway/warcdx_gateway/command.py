@@ -31,15 +31,9 @@ def read_arguments(arguments: Optional[Sequence[str]]) -> Settings:
     """Returns the settings of the command line. Raises BadSettings."""
     parser = command.Parser(NAME, __doc__)
     parser.add_argument("settings", metavar="SETTINGS", nargs="?", help="a file in TOML")
-    parser.add_argument(
-        "--indexes", metavar="INDEX", nargs="+", help="the indexes of one collection"
-    )
-    parser.add_argument(
-        "--archives", metavar="FOLDER", nargs="+", default=[], help="the folders of its archives"
-    )
-    parser.add_argument(
-        "--address", help="the address to listen at, instead of that of the settings"
-    )
+    parser.add_argument("--indexes", metavar="INDEX", nargs="+", help="the indexes of one collection")
+    parser.add_argument("--archives", metavar="FOLDER", nargs="+", default=[], help="the folders of its archives")
+    parser.add_argument("--address", help="the address to listen at, instead of that of the settings")
     parser.add_argument("--port", type=int, help="the port, 0 for any that is free")
     parser.add_argument("--host", help="a name that requests may have in their field Host")
     parser.add_argument("--workers", type=int, help="how many processes answer requests")
@@ -50,16 +44,9 @@ def read_arguments(arguments: Optional[Sequence[str]]) -> Settings:
     if given.settings is not None:
         settings = read_settings(pathlib.Path(given.settings))
     else:
-        indexes, archives = (
-            tuple(pathlib.Path(name).absolute() for name in names)
-            for names in (given.indexes, given.archives)
-        )
+        indexes, archives = (tuple(pathlib.Path(name).absolute() for name in names) for names in (given.indexes, given.archives))
         settings = Settings((CollectionSettings("main", "Captures", indexes, archives),), "main")
-    changed = {
-        name: getattr(given, name)
-        for name in ("address", "port", "program", "workers")
-        if getattr(given, name) is not None
-    }
+    changed = {name: getattr(given, name) for name in ("address", "port", "program", "workers") if getattr(given, name) is not None}
     if given.host is not None:
         changed["hosts"] = (*settings.hosts, given.host)
     return checked(dataclasses.replace(settings, **changed))

@@ -43,9 +43,7 @@ class Generation:
     that is given, or were changed.
     """
 
-    def __init__(
-        self, paths: Iterable["str | os.PathLike[str]"], stamp: Optional[Stamp] = None
-    ) -> None:
+    def __init__(self, paths: Iterable["str | os.PathLike[str]"], stamp: Optional[Stamp] = None) -> None:
         self.files: list[int] = []
         try:
             for path in paths:
@@ -72,9 +70,7 @@ class Generation:
     @property
     def is_unchanged(self) -> bool:
         """Whether nothing was written to the files, as `Identity.has_content_of` says."""
-        return [
-            (found.st_size, found.st_mtime_ns) for found in map(os.fstat, self.files)
-        ] == self._contents
+        return [(found.st_size, found.st_mtime_ns) for found in map(os.fstat, self.files)] == self._contents
 
     def close(self) -> None:
         for file in self.files:
@@ -88,7 +84,4 @@ def names_of(process: int, files: Sequence[int]) -> list[str]:
 
 
 def stamp_of(found: Iterable[os.stat_result]) -> Stamp:
-    return tuple(
-        Identity(each.st_dev, each.st_ino, each.st_size, each.st_mtime_ns, each.st_ctime_ns)
-        for each in found
-    )
+    return tuple(Identity(each.st_dev, each.st_ino, each.st_size, each.st_mtime_ns, each.st_ctime_ns) for each in found)

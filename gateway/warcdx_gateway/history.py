@@ -73,9 +73,7 @@ class History:
             return next((each for each in exact if each.original == original), exact[0])
         return nearest_of((self.before(timestamp), self.after(timestamp)), timestamp)
 
-    def page(
-        self, timestamp: str, passed: int, most: int
-    ) -> tuple[list[Capture], Optional[Capture], int]:
+    def page(self, timestamp: str, passed: int, most: int) -> tuple[list[Capture], Optional[Capture], int]:
         """Returns the first captures from a time on, about `most`, after those of it that were passed.
 
         Then the capture that follows them, and how many of its second are before it: those of one

@@ -34,9 +34,7 @@ _PAGE = re.compile(r"([0-9]{14})(?:-([0-9]{1,6}))?/(.*)", re.DOTALL)
 # A replayed page of other servers: it is answered by the raw capture, or by a calendar.
 _REPLAYED = re.compile(r"([0-9]{1,14})(?:[a-z]{2}_)?/(.+)", re.DOTALL)
 _CALENDAR = re.compile(r"([0-9]{0,14})\*/(.+)", re.DOTALL)
-_DATE = re.compile(
-    "(Mon|Tue|Wed|Thu|Fri|Sat|Sun)(, [0-9]{2} [A-Z][a-z]{2} [0-9]{4} [0-9:]{8} GMT)"
-)
+_DATE = re.compile("(Mon|Tue|Wed|Thu|Fri|Sat|Sun)(, [0-9]{2} [A-Z][a-z]{2} [0-9]{4} [0-9:]{8} GMT)")
 
 
 def rules() -> list[Rule]:
@@ -55,13 +53,7 @@ def rules() -> list[Rule]:
 
 
 def _sent(
-    handler: Callable[..., Response],
-    segments: int,
-    gateway: Gateway,
-    request: Request,
-    url: str,
-    collection: str = "",
-    **values: str,
+    handler: Callable[..., Response], segments: int, gateway: Gateway, request: Request, url: str, collection: str = "", **values: str
 ) -> Response:
     """Answers by a handler of the URL behind the first segments of the path, as it was sent."""
     return handler(gateway, request, collection, url_of(request, segments), **values)
@@ -177,9 +169,7 @@ def time_map(gateway: Gateway, request: Request, collection: str, sent: str) -> 
     return time_map_of(gateway, resource, found[1], int(found[2] or 0))
 
 
-def time_map_of(
-    gateway: Gateway, resource: Resource, start: str = "", passed: int = 0
-) -> Response:
+def time_map_of(gateway: Gateway, resource: Resource, start: str = "", passed: int = 0) -> Response:
     page = resource.history.page(start or "0" * 14, passed, MOST_MEMENTOS)
     captures, following, before = page
     if not captures:
@@ -204,9 +194,7 @@ def time_map_of(
     return Response(",\n".join(lines) + "\n", content_type=LINK_FORMAT)
 
 
-def raw_capture(
-    gateway: Gateway, request: Request, collection: str, sent: str, timestamp: str
-) -> Response:
+def raw_capture(gateway: Gateway, request: Request, collection: str, sent: str, timestamp: str) -> Response:
     """Answers with a capture as it was archived, or sends a client to the nearest one."""
     if not (is_number(timestamp) and len(timestamp) <= 14):
         raise NotFound()
@@ -218,9 +206,7 @@ def is_window(request: Request) -> bool:
     return request.headers.get("Sec-Fetch-Dest") in WINDOWS
 
 
-def capture_of(
-    gateway: Gateway, request: Request, collection: str, sent: str, timestamp: str, mark: str
-) -> Response:
+def capture_of(gateway: Gateway, request: Request, collection: str, sent: str, timestamp: str, mark: str) -> Response:
     """Answers with a capture, with or without the mark of one that is as it was archived."""
     resource = Resource(gateway, request, collection, sent)
     capture = resource.history.nearest(last_moment(timestamp), resource.original)

@@ -12,12 +12,7 @@ from .rows import GROUPED, ORIGINALS, UNKNOWN, Collapse
 from .settings import Limits
 
 PYWB_NAMES = {"url": "original", "mime": "mimetype", "status": "statuscode"}
-TESTS = {
-    "is": (Test.EQUALS, False),
-    "isnot": (Test.EQUALS, True),
-    "has": (Test.CONTAINS, False),
-    "hasnot": (Test.CONTAINS, True),
-}
+TESTS = {"is": (Test.EQUALS, False), "isnot": (Test.EQUALS, True), "has": (Test.CONTAINS, False), "hasnot": (Test.CONTAINS, True)}
 MARKED = {"=": Test.EQUALS, "~": Test.BEGINS}  # filters of pywb
 FIELD_LIST = ", ".join(FIELDS)
 ADDED = (*UNKNOWN, *GROUPED, *ORIGINALS, "dupecount")
@@ -66,9 +61,7 @@ CLIENT_FLAGS = frozenset(
 # Parameters that change no answer here: a number against caches, the name of a function of a page's
 # script, and what depends on columns that indexes in CDXJ don't have.
 IGNORED = frozenset(("_", "callback", "omitSelfRedirects"))
-TRANSLATED = (
-    CLIENT_FLAGS | IGNORED | frozenset("closest collapseTime limit output page resumeKey sort".split())
-)
+TRANSLATED = CLIENT_FLAGS | IGNORED | frozenset("closest collapseTime limit output page resumeKey sort".split())
 PLACE = re.compile(r"[A-Za-z0-9*._%-]+(?:(?:\+|%20)[A-Za-z0-9*._%-]+)+")  # a resume key, encoded
 ESCAPED = re.compile("[%+]")
 CHECKS = {name: re.compile(pattern, re.DOTALL) for name, (pattern, _, _) in SINGLE.items()}

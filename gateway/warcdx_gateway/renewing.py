@@ -80,13 +80,7 @@ class Openings:
     The program has `memory` bytes for each check. The constructor raises OSError.
     """
 
-    def __init__(
-        self,
-        collections: Iterable[CollectionSettings],
-        program: str,
-        memory: int,
-        known: Container[Identity] = (),
-    ) -> None:
+    def __init__(self, collections: Iterable[CollectionSettings], program: str, memory: int, known: Container[Identity] = ()) -> None:
         self._program = program
         self._memory = memory
         self._waiting: list[Opening] = []
@@ -204,9 +198,7 @@ class Renewal:
             self._forget()
         elif self._stamp != self._failed or now > self._again:
             self._tell_of_change()
-            self._openings = Openings(
-                (self._collection.settings,), self._collection.program, self._memory, known
-            )
+            self._openings = Openings((self._collection.settings,), self._collection.program, self._memory, known)
             self.begun = now
 
     def _forget(self) -> None:

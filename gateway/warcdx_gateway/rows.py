@@ -21,8 +21,7 @@ GROUPED = ("endtimestamp", "groupcount", "uniqcount", "skipcount")
 COLUMNS = (*FIELDS, "line", "dupecount", *UNKNOWN, *GROUPED, *ORIGINALS)
 PLACES = {name: place for place, name in enumerate(COLUMNS)}
 KEY, STAMP, DIGEST, OFFSET, NAME, LINE, COUNT = (
-    PLACES[name]
-    for name in ("urlkey", "timestamp", "digest", "offset", "filename", "line", "dupecount")
+    PLACES[name] for name in ("urlkey", "timestamp", "digest", "offset", "filename", "line", "dupecount")
 )
 MIME, STATUS, LENGTH = (PLACES[name] for name in ("mimetype", "statuscode", "length"))
 END, GROUP_COUNT, DIGEST_COUNT, SKIPPED = (PLACES[name] for name in GROUPED)
@@ -209,12 +208,7 @@ class ArrayWriter(Writer):
         return self.rows(()) + f"{shown}]\n".encode()
 
 
-WRITERS = {
-    Output.TEXT: Writer,
-    Output.JSON: ArrayWriter,
-    Output.CDXJ: LineWriter,
-    Output.LINES: ObjectWriter,
-}
+WRITERS = {Output.TEXT: Writer, Output.JSON: ArrayWriter, Output.CDXJ: LineWriter, Output.LINES: ObjectWriter}
 
 
 def array(values: Sequence[str]) -> str:

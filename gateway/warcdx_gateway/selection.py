@@ -12,22 +12,7 @@ from .conditions import Conditions
 from .history import LAST_PLACE
 from .plan import Plan
 from .ranges import Positions, Range
-from .rows import (
-    DIGEST,
-    KEY,
-    MIME,
-    PLACES,
-    STAMP,
-    STATUS,
-    UNKNOWN_PART,
-    Collapser,
-    Grouper,
-    Output,
-    Part,
-    Row,
-    row_of_line,
-    row_of_values,
-)
+from .rows import DIGEST, KEY, MIME, PLACES, STAMP, STATUS, UNKNOWN_PART, Collapser, Grouper, Output, Part, Row, row_of_line, row_of_values
 from .settings import Limits
 
 REVISIT = "warc/revisit"
@@ -75,14 +60,7 @@ class Selection:
     whole answer has: a collapse compares the first one with what is before it.
     """
 
-    def __init__(
-        self,
-        plan: Plan,
-        source: Source,
-        limits: Limits,
-        key: Optional[str] = None,
-        stretch: Optional[Stretch] = None,
-    ) -> None:
+    def __init__(self, plan: Plan, source: Source, limits: Limits, key: Optional[str] = None, stretch: Optional[Stretch] = None) -> None:
         self._plan = plan
         self._source = source
         self._key = key
@@ -248,9 +226,7 @@ class Resolver:
         return self._found[digest]
 
 
-def sliced(
-    groups: Iterable[list[Item]], first: int, end: int = sys.maxsize
-) -> Iterator[list[Item]]:
+def sliced(groups: Iterable[list[Item]], first: int, end: int = sys.maxsize) -> Iterator[list[Item]]:
     """Yields what has the numbers from `first` to before `end` in the groups."""
     number = 0
     for found in groups if first < end else ():

@@ -61,10 +61,7 @@ class Log(gunicorn.glogging.Logger):
     def atoms(self, *args: Any, **kwargs: Any) -> dict[str, Any]:
         """Returns what a line of the access log may have, without what acts on a terminal."""
         found = super().atoms(*args, **kwargs).items()
-        return {
-            name: without_controls(value) if isinstance(value, str) else value
-            for name, value in found
-        }
+        return {name: without_controls(value) if isinstance(value, str) else value for name, value in found}
 
     def info(self, msg: str, *args: Any, **kwargs: Any) -> None:
         if kwargs.get("exc_info"):
@@ -220,13 +217,7 @@ class Worker(gunicorn.workers.sync.SyncWorker):
 class Server(BaseApplication):
     """Runs workers until a signal. `read` returns the settings anew, after SIGHUP."""
 
-    def __init__(
-        self,
-        settings: Settings,
-        read: Callable[[], Settings],
-        folder: pathlib.Path,
-        listeners: Sequence[int],
-    ) -> None:
+    def __init__(self, settings: Settings, read: Callable[[], Settings], folder: pathlib.Path, listeners: Sequence[int]) -> None:
         self._settings = settings
         self._read = read
         self._folder = folder
@@ -355,17 +346,13 @@ class Server(BaseApplication):
     def _use(self, settings: Settings, rules: RulesFile, openings: Openings) -> None:
         """Makes the application of settings whose indexes were checked."""
         found = openings.taken()
-        collections = {
-            each.name: Collection(each, settings, found[each.name]) for each in settings.collections
-        }
+        collections = {each.name: Collection(each, settings, found[each.name]) for each in settings.collections}
         self.shares = Shares(self._folder, self.waiting, settings.wide, settings.limits.wait)
         self._board = Board(sum(map(most_state, settings.collections)))
         self._rules, self._rules_board = rules, Board(MOST_RULES)
         self._rules_board.write(rules.text)
         self._settings = settings
-        self._gateway = Gateway(
-            settings, collections, self._metrics, self._board, self._rules_board
-        )
+        self._gateway = Gateway(settings, collections, self._metrics, self._board, self._rules_board)
         self._renewals = [Renewal(each, settings.memory) for each in collections.values()]
 
     def _renew(self) -> None:
@@ -436,9 +423,7 @@ def poll_of(readable: Iterable[Any]) -> "select.poll":
 
 def bound(address: str, port: int) -> socket.socket:
     """Returns a socket with an address, which doesn't listen yet. Raises OSError."""
-    family, _, _, _, found = socket.getaddrinfo(
-        address, port, type=socket.SOCK_STREAM, flags=socket.AI_PASSIVE
-    )[0]
+    family, _, _, _, found = socket.getaddrinfo(address, port, type=socket.SOCK_STREAM, flags=socket.AI_PASSIVE)[0]
     listener = socket.socket(family, socket.SOCK_STREAM)
     try:
         listener.setsockopt(socket.SOL_SOCKET, socket.SO_REUSEADDR, 1)
@@ -472,6 +457,4 @@ def allow_files(indexes: int) -> None:
         soft = wanted if hard == resource.RLIM_INFINITY else min(wanted, hard)
         resource.setrlimit(resource.RLIMIT_NOFILE, (soft, hard))
     if soft != resource.RLIM_INFINITY and soft < least:
-        raise OSError(
-            f"a process may open {soft} files, and {least} are needed: raise the limit, as by ulimit -n"
-        )
+        raise OSError(f"a process may open {soft} files, and {least} are needed: raise the limit, as by ulimit -n")

@@ -123,9 +123,7 @@ class Metrics:
         self.broken = counter("broken_answers", "Answers that were broken off.", "cause")
         self.bytes = counter("answer_bytes", "Bytes of answers.")
         self.ended = counter("ended_workers", "Workers that were ended, or have failed.")
-        self.renewals = counter(
-            "index_renewals", "Indexes that were replaced and opened.", "collection", "result"
-        )
+        self.renewals = counter("index_renewals", "Indexes that were replaced and opened.", "collection", "result")
         self.old_indexes = Gauge(
             "warcdx_gateway_old_indexes",
             "Whether the indexes in use aren't those that have the names now.",
@@ -134,10 +132,7 @@ class Metrics:
             multiprocess_mode="max",
         )
         self.seconds = Histogram(
-            "warcdx_gateway_request_seconds",
-            "Seconds from a request to the end of its answer.",
-            registry=registry,
-            buckets=BOUNDS,
+            "warcdx_gateway_request_seconds", "Seconds from a request to the end of its answer.", registry=registry, buckets=BOUNDS
         )
 
     def sit(self) -> None:

@@ -36,9 +36,7 @@ class Waiting:
 
     def __init__(self) -> None:
         self._has_ended = mmap.mmap(-1, 1)  # whether no worker takes what waits from now on
-        self._ends = [
-            socket.socketpair(socket.AF_UNIX, socket.SOCK_SEQPACKET) for _ in range(QUEUES)
-        ]
+        self._ends = [socket.socketpair(socket.AF_UNIX, socket.SOCK_SEQPACKET) for _ in range(QUEUES)]
         for pair in self._ends:
             for end in pair:
                 end.setblocking(False)

@@ -38,9 +38,7 @@ class Connection(socket.socket):
 
     is_for_metrics = False  # whether it came by the address of the metrics
 
-    def __init__(
-        self, descriptor: int, lease: Lease, arrived: float, heard: bytes = b"", family: int = -1
-    ) -> None:
+    def __init__(self, descriptor: int, lease: Lease, arrived: float, heard: bytes = b"", family: int = -1) -> None:
         kind = -1 if family == -1 else socket.SOCK_STREAM
         super().__init__(family, kind, 0, descriptor)  # without a family the system is asked
         self.lease = lease

@@ -57,9 +57,7 @@ def draw_years(counts: Counts, search: Optional[Search], chosen: str = "") -> Ma
     return element("div", drawing, class_="scroll")
 
 
-def _bar(
-    width: int, year: str, count: int, most: int, search: Optional[Search], chosen: str
-) -> Markup:
+def _bar(width: int, year: str, count: int, most: int, search: Optional[Search], chosen: str) -> Markup:
     middle, bottom = width / 2, _TOP + _BAR_HEIGHT
     name = element("text", year, x=middle, y=bottom + 15, class_="year")
     if not count:
@@ -76,11 +74,7 @@ def _bar(
     if search is None:
         return element("g", drawn, role="img", aria_label=words)
     return element(
-        "a",
-        drawn,
-        href=search.link("search", "year", year=year),
-        aria_label=words,
-        aria_current="true" if year == chosen else None,
+        "a", drawn, href=search.link("search", "year", year=year), aria_label=words, aria_current="true" if year == chosen else None
     )
 
 
@@ -114,14 +108,10 @@ def draw_year(year: int, counts: Counts, search: Search) -> Markup:
     return element("div", months, class_="months")
 
 
-def _draw_month(
-    year: int, month: int, days: Mapping[datetime.date, int], most: int, search: Search
-) -> Markup:
+def _draw_month(year: int, month: int, days: Mapping[datetime.date, int], most: int, search: Search) -> Markup:
     name = dates.MONTHS[month - 1]
     first, length = calendar.monthrange(year, month)
-    of_month = [
-        ((first + number) // 7, datetime.date(year, month, number + 1)) for number in range(length)
-    ]
+    of_month = [((first + number) // 7, datetime.date(year, month, number + 1)) for number in range(length)]
     total = sum(days.get(day, 0) for _, day in of_month)
     letters = (
         element("text", letter, x=_DAY * (number + 0.5), y=15, class_="weekday", aria_hidden="true")
@@ -143,14 +133,7 @@ def _draw_month(
 
 def _draw_day(day: datetime.date, week: int, count: int, most: int, search: Search) -> Markup:
     x, y = day.weekday() * _DAY, _WEEKS_TOP + week * _ROW
-    number = element(
-        "text",
-        day.day,
-        x=x + _DAY / 2,
-        y=y + 18,
-        class_="day" if count else "none",
-        aria_hidden=None if count else "true",
-    )
+    number = element("text", day.day, x=x + _DAY / 2, y=y + 18, class_="day" if count else "none", aria_hidden=None if count else "true")
     if not count:
         return number
     words = f"{dates.full_day(day)}: {dates.many(count, 'capture')}"
@@ -158,15 +141,7 @@ def _draw_day(day: datetime.date, week: int, count: int, most: int, search: Sear
     return element(
         "a",
         element("title", words),
-        element(
-            "rect",
-            x=x + 2,
-            y=y + 1,
-            width=_DAY - 4,
-            height=_ROW - 4,
-            rx=5,
-            class_=f"level{level(count, most)}",
-        ),
+        element("rect", x=x + 2, y=y + 1, width=_DAY - 4, height=_ROW - 4, rx=5, class_=f"level{level(count, most)}"),
         number,
         href=search.within(f"{day.year:04}{digits}").link("captures"),
         aria_label=words,
@@ -185,13 +160,8 @@ def legend(counts: Mapping[datetime.date, int]) -> Child:
     most = max(counts.values(), default=0)
     if most <= 1:
         return None
-    shades = (
-        element("rect", x=22 * number, y=1, width=18, height=14, rx=4, class_=f"level{number + 1}")
-        for number in range(LEVELS)
-    )
-    drawing = element(
-        "svg", shades, viewBox="0 0 84 16", width=84, height=16, aria_hidden="true", class_="legend"
-    )
+    shades = (element("rect", x=22 * number, y=1, width=18, height=14, rx=4, class_=f"level{number + 1}") for number in range(LEVELS))
+    drawing = element("svg", shades, viewBox="0 0 84 16", width=84, height=16, aria_hidden="true", class_="legend")
     return element("p", "A day with 1 capture ", drawing, f" to {most:,}", class_="help")
 
 
@@ -200,20 +170,10 @@ def days_table(year: int, counts: Counts, search: Search) -> Markup:
     names = {"day": "Day", "count": "Captures"}
     days = sorted((day, count) for day, count in counts.dated.items() if day.year == year)
     rows = (
-        row(
-            names,
-            element(
-                "a",
-                dates.full_day(day),
-                href=search.within(f"{day.year:04}{day:%m%d}").link("captures"),
-            ),
-            f"{count:,}",
-        )
+        row(names, element("a", dates.full_day(day), href=search.within(f"{day.year:04}{day:%m%d}").link("captures")), f"{count:,}")
         for day, count in days
     )
-    return _details(
-        "The days as a table", table(f"Captures of each day of {year}", names, rows, "counts")
-    )
+    return _details("The days as a table", table(f"Captures of each day of {year}", names, rows, "counts"))
 
 
 def _details(summary: str, content: Markup) -> Markup:

@@ -43,9 +43,7 @@ class Side:
         return dates.in_words(timestamp) if timestamp else "no date"
 
 
-def compare_page(
-    gateway: Gateway, collection: Collection, captures: list[Capture]
-) -> Response:
+def compare_page(gateway: Gateway, collection: Collection, captures: list[Capture]) -> Response:
     """Returns the page of two captures. Raises NotShown if they can't be compared."""
     sides = [side_of(gateway, collection, capture) for capture in captures]
     for side in sides:
@@ -86,9 +84,7 @@ def run(pages: list[Read]) -> dict[str, Any]:
     text = json.dumps(head).encode() + b"\n" + b"".join(page.payload.content for page in pages)
     command = (sys.executable, "-I", str(_PROGRAM))
     try:
-        done = subprocess.run(
-            command, input=text, stdout=subprocess.PIPE, stderr=subprocess.DEVNULL, timeout=SECONDS
-        )
+        done = subprocess.run(command, input=text, stdout=subprocess.PIPE, stderr=subprocess.DEVNULL, timeout=SECONDS)
     except subprocess.TimeoutExpired:
         raise _too_much() from None
     if done.returncode:
@@ -106,11 +102,7 @@ def _too_much() -> NotShown:
 def _summary(sides: list[Side], found: dict[str, Any]) -> Markup:
     first, second = (side.content.payload for side in sides)
     differing = sum(1 for row in found["rows"] if _differs(row))
-    words = [
-        f"{dates.many(differing, 'line')} {'differs' if differing == 1 else 'differ'}."
-        if differing
-        else "The texts are the same."
-    ]
+    words = [f"{dates.many(differing, 'line')} {'differs' if differing == 1 else 'differ'}." if differing else "The texts are the same."]
     if first.is_whole and second.is_whole and first.content == second.content:
         words.append("The payloads are the same, byte for byte.")
     elif not differing:
@@ -124,9 +116,7 @@ def _summary(sides: list[Side], found: dict[str, Any]) -> Markup:
 
 
 def _differs(row: dict[str, Any]) -> bool:
-    return "equal" not in row and any(
-        changed for side in ("left", "right") for changed, _ in row[side] or ()
-    )
+    return "equal" not in row and any(changed for side in ("left", "right") for changed, _ in row[side] or ())
 
 
 def _table(sides: list[Side], rows: list[dict[str, Any]]) -> Markup:
@@ -143,9 +133,7 @@ def _table(sides: list[Side], rows: list[dict[str, Any]]) -> Markup:
 def _head(side: Side) -> Markup:
     where = followed(side.when, record_link(side.capture))
     address = element("bdi", cut(target_of(side.record.head), 300), class_="address")
-    return joined(
-        where, " (a revisit: the text of its original)" if side.is_revisit else None, " ", address
-    )
+    return joined(where, " (a revisit: the text of its original)" if side.is_revisit else None, " ", address)
 
 
 def _row(row: dict[str, Any]) -> Markup:

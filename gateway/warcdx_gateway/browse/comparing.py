@@ -26,28 +26,13 @@ MOST_LINE = 2000  # characters of a line
 CONTEXT = 2  # equal lines that are shown around a difference
 MOST_WORDS = 300  # of a line whose words are compared
 LEAST_ALIKE = 0.6  # of lines whose words are compared: what share of them is equal
-_NOT_SHOWN = frozenset(
-    (
-        "script",
-        "style",
-        "noscript",
-        "template",
-        "textarea",
-        "select",
-        "svg",
-        "math",
-        "iframe",
-        "object",
-    )
-)
+_NOT_SHOWN = frozenset(("script", "style", "noscript", "template", "textarea", "select", "svg", "math", "iframe", "object"))
 _BLOCKS = frozenset(
     "address article aside blockquote br caption dd details dialog div dl dt fieldset figcaption "
     "figure footer form h1 h2 h3 h4 h5 h6 header hgroup hr legend li main menu nav ol option p pre "
     "section summary table td th title tr ul".split()
 )
-META_CHARSET = re.compile(
-    rb"""<meta[^>]{0,200}?charset\s*=\s*["']?([A-Za-z0-9._:-]{1,40})""", re.IGNORECASE
-)
+META_CHARSET = re.compile(rb"""<meta[^>]{0,200}?charset\s*=\s*["']?([A-Za-z0-9._:-]{1,40})""", re.IGNORECASE)
 META_SEARCHED = 4096  # bytes in which a page may name its character set
 _WORDS = re.compile(r"\w+|\s+|[^\w\s]")
 
@@ -121,9 +106,7 @@ def lines_of(text: str, is_html: bool) -> tuple[list[str], bool]:
         kept.append(piece)
         if not left:
             break
-    return kept, len(kept) < len(lines) or any(
-        len(one) < len(other) for one, other in zip(kept, lines)
-    )
+    return kept, len(kept) < len(lines) or any(len(one) < len(other) for one, other in zip(kept, lines))
 
 
 def compare(first: Sequence[str], second: Sequence[str]) -> Iterator[Row]:

@@ -26,9 +26,7 @@ def time_of(timestamp: str) -> Optional[datetime.datetime]:
         return None
     month, day, hour, minute, second = (int(timestamp[at : at + 2]) for at in range(4, 14, 2))
     try:
-        return datetime.datetime(
-            int(timestamp[:4]), month, day, hour, minute, second, tzinfo=datetime.timezone.utc
-        )
+        return datetime.datetime(int(timestamp[:4]), month, day, hour, minute, second, tzinfo=datetime.timezone.utc)
     except ValueError:
         return None
 

@@ -38,13 +38,9 @@ _IMAGES = frozenset(
     "image/vnd.microsoft.icon image/x-icon".split()
 )
 # Tags with attributes that have the URL of an image or a style sheet.
-_TAG = re.compile(
-    rb"<(img|input|link|source|body|table|td|th|style|base|a|area)(?=[\s/>])", re.IGNORECASE
-)
+_TAG = re.compile(rb"<(img|input|link|source|body|table|td|th|style|base|a|area)(?=[\s/>])", re.IGNORECASE)
 _ATTRIBUTE = re.compile(
-    rb"""(?<=[\s"'/])(src|href|background|srcset|rel|style|target)\s*=\s*"""
-    rb"""("[^"]*"|'[^']*'|[^\s"'>]+)""",
-    re.IGNORECASE,
+    rb"""(?<=[\s"'/])(src|href|background|srcset|rel|style|target)\s*=\s*""" rb"""("[^"]*"|'[^']*'|[^\s"'>]+)""", re.IGNORECASE
 )
 _MARKS = ((b"\xef\xbb\xbf", "utf-8-sig"), (b"\xff\xfe", "utf-16"), (b"\xfe\xff", "utf-16"))
 _LATIN = "windows-1252"  # which browsers take for these names, and for none
@@ -105,13 +101,7 @@ class Parts:
         return f"data:{record.kind};base64,{base64.b64encode(content).decode()}"
 
 
-def embedded(
-    gateway: Gateway,
-    collection: Collection,
-    capture: Capture,
-    record: reading.Read,
-    linked: Optional[Linked] = None,
-) -> bytes:
+def embedded(gateway: Gateway, collection: Collection, capture: Capture, record: reading.Read, linked: Optional[Linked] = None) -> bytes:
     """Returns the payload of a page of HTML with its images and style sheets, in UTF-8.
 
     `linked` returns the URL to which a link leads. Without it links stay as they are.

@@ -12,27 +12,15 @@ from .searching import MATCHES, NotShown, Search
 UP = "../../"  # from a page of a collection to the list of collections
 
 
-def collection_page(
-    collection: Collection,
-    title: str,
-    *content: Child,
-    search: Optional[Search] = None,
-    status: int = 200,
-) -> Response:
+def collection_page(collection: Collection, title: str, *content: Child, search: Optional[Search] = None, status: int = 200) -> Response:
     """Returns a page of a collection: its name, the form of the search, and what is on it."""
     all_of_them = element("li", element("a", "Collections", href=Link(UP + "browse")))
     path = element(
         "nav",
-        element(
-            "ol",
-            None if collection.is_alone else all_of_them,
-            element("li", element("a", collection.title, href=Link("./"))),
-        ),
+        element("ol", None if collection.is_alone else all_of_them, element("li", element("a", collection.title, href=Link("./")))),
         aria_label="Where you are",
     )
-    body = joined(
-        _banner(path, search_form(search)), element("main", *content, id="content", tabindex=-1)
-    )
+    body = joined(_banner(path, search_form(search)), element("main", *content, id="content", tabindex=-1))
     shown = f"{title} – {collection.title}" if title != collection.title else title
     return responses.page(_document(shown, body, UP), status)
 
@@ -43,9 +31,7 @@ def list_page(collections: Sequence[Collection]) -> Response:
     content = joined(
         element("h1", "Web archives"),
         element("p", "Each collection can be searched for a URL or a host."),
-        element("ul", entries, class_="collections")
-        if collections
-        else element("p", "There is no collection."),
+        element("ul", entries, class_="collections") if collections else element("p", "There is no collection."),
     )
     body = joined(_banner(None, None), element("main", content, id="content", tabindex=-1))
     return responses.page(_document("Web archives", body, ""))
@@ -56,27 +42,16 @@ def _entry(collection: Collection) -> Markup:
     return element("li", element("h2", name), element("p", element("code", collection.name)))
 
 
-def refusal_page(
-    collection: Collection, refusal: NotShown, search: Optional[Search] = None
-) -> Response:
+def refusal_page(collection: Collection, refusal: NotShown, search: Optional[Search] = None) -> Response:
     """Returns a page that says what was refused, and why."""
-    content = element(
-        "div",
-        element("h1", refusal.what),
-        element("p", refusal.why),
-        class_="refusal",
-        role="alert",
-    )
+    content = element("div", element("h1", refusal.what), element("p", refusal.why), class_="refusal", role="alert")
     return collection_page(collection, "Refused", content, search=search, status=refusal.status)
 
 
 def search_form(search: Optional[Search]) -> Markup:
     """Returns the form, with what was typed in it."""
     search = search or Search("")
-    options = (
-        element("option", words, value=value, selected=search.match == value)
-        for value, words in MATCHES.items()
-    )
+    options = (element("option", words, value=value, selected=search.match == value) for value, words in MATCHES.items())
     return element(
         "form",
         _labelled(
@@ -160,20 +135,14 @@ def _banner(path: Optional[Markup], form: Optional[Markup]) -> Markup:
 
 
 def _document(title: str, content: Markup, up: str) -> bytes:
-    footer = element(
-        "footer",
-        element("p", "Times are in UTC. Nothing on these pages is fetched from another site."),
-    )
+    footer = element("footer", element("p", "Times are in UTC. Nothing on these pages is fetched from another site."))
     body = element("body", content, footer)
     return document(title, body, Link(up + "browse/style.css"), Link(up + "browse/icon.svg"))
 
 
 def table(caption: Child, names: Mapping[str, str], rows: Child, kind: str = "") -> Markup:
     """Returns a table. `names` has the words of each column, by the class of its cells."""
-    heads = (
-        element("th", words, scope="col", role="columnheader", class_=each)
-        for each, words in names.items()
-    )
+    heads = (element("th", words, scope="col", role="columnheader", class_=each) for each, words in names.items())
     head = element("tr", heads, role="row")
     return element(
         "table",
@@ -191,9 +160,6 @@ def row(names: Mapping[str, str], *cells: Child) -> Markup:
     return element(
         "tr",
         element("th", first[1], scope="row", role="rowheader", class_=first[0][0]),
-        (
-            element("td", cell, role="cell", class_=name, data_label=words)
-            for (name, words), cell in rest
-        ),
+        (element("td", cell, role="cell", class_=name, data_label=words) for (name, words), cell in rest),
         role="row",
     )

@@ -21,7 +21,6 @@ _MOST_ADDRESS = 300  # characters of an address that are shown in a list
 MOST_DIGEST = 100  # characters of a digest, of which SHA-256 has 64
 
 
-
 @dataclass(frozen=True)
 class Part:
     """The rows of a page, and the place of the last one if others follow.
@@ -47,9 +46,7 @@ def addresses(gateway: Gateway, collection: Collection, search: Search, after: s
     part = _part(ask, search.query(resumeKey=after), bool(after))
     times = Search("", "exact", search.first, search.last)
     source = gateway.source(collection)
-    counts = tuple(
-        count_of_url(source, replace(times, key=each.urlkey)) for each in part.captures
-    )
+    counts = tuple(count_of_url(source, replace(times, key=each.urlkey)) for each in part.captures)
     return replace(part, counts=counts)
 
 
@@ -62,19 +59,8 @@ def _part(ask: Ask, query: str, is_later: bool) -> Part:
 def captures_section(part: Part, search: Search, words: str) -> Markup:
     """Returns the list of captures, in a form that compares the texts of two of them."""
     if not part.captures:
-        return element(
-            "section",
-            element("h2", words),
-            element("p", "There are no captures here."),
-            class_="card",
-        )
-    names = {
-        "time": "Time",
-        "status": "Status",
-        "type": "Type",
-        "size": "Record",
-        "digest": "Digest",
-    }
+        return element("section", element("h2", words), element("p", "There are no captures here."), class_="card")
+    names = {"time": "Time", "status": "Status", "type": "Type", "size": "Record", "digest": "Digest"}
     can_compare = sum(map(_can_be_picked, part.captures)) > 1
     if can_compare:
         names["pick"] = "Compare"
@@ -83,32 +69,20 @@ def captures_section(part: Part, search: Search, words: str) -> Markup:
     before: Optional[str] = None
     rows: list[Child] = []
     for number, capture in enumerate(part.captures):
-        rows.append(
-            _capture_row(names, capture, before == capture.digest, number if can_compare else None)
-        )
+        rows.append(_capture_row(names, capture, before == capture.digest, number if can_compare else None))
         before = capture.digest if capture.digest != "-" else None
     listed: Child = table(words, names, rows, "captures")
     if can_compare:
         button = element("p", element("button", "Compare the two texts", type="submit"))
         listed = element("form", listed, button, action=Link("compare"), method="get")
-    return element(
-        "section",
-        element("h2", words),
-        listed,
-        _further(part, search, "captures"),
-        class_="card",
-        id="list",
-    )
+    return element("section", element("h2", words), listed, _further(part, search, "captures"), class_="card", id="list")
 
 
-def _capture_row(
-    names: dict[str, str], capture: Capture, is_same: bool, number: Optional[int]
-) -> Markup:
+def _capture_row(names: dict[str, str], capture: Capture, is_same: bool, number: Optional[int]) -> Markup:
     words = f"Record of {dates.in_words(capture.timestamp)}"
     time = followed(_time(capture.timestamp), record_link(capture), aria_label=words)
     digest = joined(
-        element("code", cut(capture.digest, MOST_DIGEST)),
-        element("span", " same as above", class_="same") if is_same else None,
+        element("code", cut(capture.digest, MOST_DIGEST)), element("span", " same as above", class_="same") if is_same else None
     )
     cells: dict[str, Child] = {
         "time": time,
@@ -117,9 +91,7 @@ def _capture_row(
         "type": "revisit" if capture.mimetype == REVISIT else cut(capture.mimetype, 80),
         "size": "-" if capture.length is None else dates.many(capture.length, "byte"),
         "digest": digest,
-        "pick": _picks(capture, number)
-        if number is not None and _can_be_picked(capture)
-        else None,
+        "pick": _picks(capture, number) if number is not None and _can_be_picked(capture) else None,
     }
     return row(names, *(cells[name] for name in names))
 
@@ -153,14 +125,7 @@ def _picks(capture: Capture, number: int) -> Markup:
     return joined(
         element(
             "label",
-            element(
-                "input",
-                type="radio",
-                name=name,
-                value=value,
-                required=True,
-                checked=number == first,
-            ),
+            element("input", type="radio", name=name, value=value, required=True, checked=number == first),
             element("span", f" {words}", aria_hidden="true"),
             element("span", f"{name}: {dates.in_words(capture.timestamp)}", class_="hidden-label"),
         )
@@ -171,26 +136,12 @@ def _picks(capture: Capture, number: int) -> Markup:
 def addresses_section(part: Part, search: Search) -> Markup:
     """Returns the list of addresses, each with its first capture."""
     if not part.captures:
-        return element(
-            "section",
-            element("h2", "URLs"),
-            element("p", "There are no URLs here."),
-            class_="card",
-        )
-    names = {
-        "address": "URL",
-        "count": "Captures",
-        "time": "First capture",
-        "status": "Status",
-        "type": "Type",
-    }
+        return element("section", element("h2", "URLs"), element("p", "There are no URLs here."), class_="card")
+    names = {"address": "URL", "count": "Captures", "time": "First capture", "status": "Status", "type": "Type"}
     rows = (
         row(
             names,
-            followed(
-                _address(capture.original if capture.original != "-" else capture.urlkey),
-                _history(capture),
-            ),
+            followed(_address(capture.original if capture.original != "-" else capture.urlkey), _history(capture)),
             count,
             _time(capture.timestamp),
             status_words(capture.statuscode),
@@ -199,14 +150,7 @@ def addresses_section(part: Part, search: Search) -> Markup:
         for capture, count in zip(part.captures, part.counts)
     )
     listed = table("URLs", names, rows, "addresses")
-    return element(
-        "section",
-        element("h2", "URLs"),
-        listed,
-        _further(part, search, "search"),
-        class_="card",
-        id="list",
-    )
+    return element("section", element("h2", "URLs"), listed, _further(part, search, "search"), class_="card", id="list")
 
 
 def _history(capture: Capture) -> Link:
@@ -220,14 +164,5 @@ def _further(part: Part, search: Search, page: str) -> Child:
     if not part.is_first:
         links.append(element("li", element("a", "First page", href=search.link(page, "list"))))
     if part.next:
-        links.append(
-            element(
-                "li",
-                followed(f"Next {SIZE}", search.link(page, "list", after=part.next), rel="next"),
-            )
-        )
-    return (
-        element("nav", element("ul", links), aria_label="Pages of this list", class_="pages")
-        if links
-        else None
-    )
+        links.append(element("li", followed(f"Next {SIZE}", search.link(page, "list", after=part.next), rel="next")))
+    return element("nav", element("ul", links), aria_label="Pages of this list", class_="pages") if links else None

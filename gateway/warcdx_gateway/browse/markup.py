@@ -49,21 +49,13 @@ class Link:
 
     @property
     def text(self) -> str:
-        query = "&".join(
-            f"{name}={quote(value, safe='', errors='replace')}" for name, value in self.query
-        )
-        return (
-            self.path
-            + (f"?{query}" if query else "")
-            + (f"#{self.fragment}" if self.fragment else "")
-        )
+        query = "&".join(f"{name}={quote(value, safe='', errors='replace')}" for name, value in self.query)
+        return self.path + (f"?{query}" if query else "") + (f"#{self.fragment}" if self.fragment else "")
 
 
 def link(path: str, fragment: str = "", /, **query: Union[str, int, None]) -> Link:
     """Returns a link. Values that are None or empty are left out."""
-    pairs = tuple(
-        (name.rstrip("_"), str(value)) for name, value in query.items() if value not in (None, "")
-    )
+    pairs = tuple((name.rstrip("_"), str(value)) for name, value in query.items() if value not in (None, ""))
     return Link(path, pairs, fragment)
 
 
@@ -92,9 +84,7 @@ def joined(*children: Child) -> Markup:
 
 def followed(words: Child, to: Link, **attributes: Value) -> Markup:
     """Returns words as a link, or the words alone if the link is longer than a server takes."""
-    return (
-        element("a", words, href=to, **attributes) if len(to.text) <= MOST_LINK else joined(words)
-    )
+    return element("a", words, href=to, **attributes) if len(to.text) <= MOST_LINK else joined(words)
 
 
 def _text_of(child: Child) -> str:
@@ -148,12 +138,7 @@ def shown(text: str) -> Markup:
     """Returns the markup of a text, with marked code points for characters that can't be seen."""
     if text.isascii() and text.isprintable():
         return Markup(html.escape(text))
-    parts = (
-        f'<b class="unseen">{html.escape(code_point(each))}</b>'
-        if is_unseen(each)
-        else html.escape(each)
-        for each in text
-    )
+    parts = (f'<b class="unseen">{html.escape(code_point(each))}</b>' if is_unseen(each) else html.escape(each) for each in text)
     return Markup("".join(parts))
 
 

@@ -50,14 +50,10 @@ class Place:
     @classmethod
     def _of(cls, filename: str, offset: str, timestamp: str, key: str, url: str) -> "Place":
         if not _OFFSET.fullmatch(offset) or int(offset) >= 1 << 63:
-            raise NotShown(
-                "The offset of the record was refused.",
-                "An offset is a number of bytes below 2^63.",
-            )
+            raise NotShown("The offset of the record was refused.", "An offset is a number of bytes below 2^63.")
         if not _TIMESTAMP.fullmatch(timestamp) or not (key or url) or " " in key or not filename:
             raise NotShown(
-                "The link to the record was refused.",
-                "It has the URL key of the capture, its timestamp of 14 digits and its file name.",
+                "The link to the record was refused.", "It has the URL key of the capture, its timestamp of 14 digits and its file name."
             )
         return cls(filename, int(offset), timestamp, key, url)
 
@@ -71,11 +67,7 @@ class Place:
         place = Capture(key, self.timestamp, *none, None, self.offset, self.filename)
         found = capture_at(ask, place) if key else None
         if found is None:
-            raise NotShown(
-                "There is no such record.",
-                "No index of the collection names a record at this place.",
-                404,
-            )
+            raise NotShown("There is no such record.", "No index of the collection names a record at this place.", 404)
         return found
 
 
@@ -127,11 +119,4 @@ def text_of(capture: Capture) -> str:
 
 def record_link(capture: Capture, page: str = "record", **more: str) -> Link:
     """Returns the link to a page of the record of a capture."""
-    return link(
-        page,
-        archive=capture.filename,
-        offset=capture.offset,
-        timestamp=capture.timestamp,
-        key=capture.urlkey,
-        **more,
-    )
+    return link(page, archive=capture.filename, offset=capture.offset, timestamp=capture.timestamp, key=capture.urlkey, **more)

@@ -54,13 +54,7 @@ class RawCapture:
     """
 
     def __init__(
-        self,
-        request: Request,
-        collection: Collection,
-        ask: Ask,
-        capture: Capture,
-        stack: contextlib.ExitStack,
-        window: Optional[Window],
+        self, request: Request, collection: Collection, ask: Ask, capture: Capture, stack: contextlib.ExitStack, window: Optional[Window]
     ) -> None:
         self._window = window
         self._request = request
@@ -111,9 +105,7 @@ class RawCapture:
         response.set_etag(tag_of(self._capture, what))
         return conditional(response, self._request, size if held is None else len(held))
 
-    def _shown(
-        self, window: Window, record: RecordStream, head: Optional[HttpHead], fields: dict[str, str]
-    ) -> Response:
+    def _shown(self, window: Window, record: RecordStream, head: Optional[HttpHead], fields: dict[str, str]) -> Response:
         """Returns a page with its images and style sheets."""
         payload = reading.shown_payload(record, self._collection.work)
         if payload.fault and not payload.content:

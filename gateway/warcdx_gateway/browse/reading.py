@@ -28,13 +28,7 @@ _CHARSET = re.compile(r"""charset\s*=\s*["']?([A-Za-z0-9._:-]{1,40})""", re.IGNO
 HTML = ("text/html", "application/xhtml+xml")
 HTML_SHOWN = "text/html; charset=utf-8"  # as `embedding` gives it
 _IMAGES = ("image/png", "image/jpeg", "image/gif", "image/webp")
-_TEXTS = (
-    "application/json",
-    "application/javascript",
-    "application/x-javascript",
-    "application/xml",
-    "application/warc-fields",
-)
+_TEXTS = ("application/json", "application/javascript", "application/x-javascript", "application/xml", "application/warc-fields")
 CHARSETS = frozenset(
     "utf-8 us-ascii iso-8859-1 iso-8859-2 iso-8859-3 iso-8859-4 iso-8859-5 iso-8859-6 iso-8859-7 "
     "iso-8859-8 iso-8859-9 iso-8859-10 iso-8859-13 iso-8859-14 iso-8859-15 iso-8859-16 "
@@ -97,11 +91,7 @@ class Read:
 
     @property
     def is_text(self) -> bool:
-        return (
-            self.kind.startswith("text/")
-            or self.kind in _TEXTS
-            or self.kind.endswith(("+xml", "+json"))
-        )
+        return self.kind.startswith("text/") or self.kind in _TEXTS or self.kind.endswith(("+xml", "+json"))
 
     @property
     def is_html(self) -> bool:
@@ -118,8 +108,7 @@ def opened(collection: Collection, capture: Capture) -> Iterator[RecordStream]:
     if path is None or not os.path.isfile(path):
         raise NotShown(
             f"The archive “{capture.filename}” isn't here.",
-            "The collection has no archive of this name in its folders, "
-            "so its record can't be read.",
+            "The collection has no archive of this name in its folders, " "so its record can't be read.",
             404,
         )
     try:
@@ -127,11 +116,7 @@ def opened(collection: Collection, capture: Capture) -> Iterator[RecordStream]:
         with archive.stream(capture.offset, length=capture.length, seconds=seconds) as record:
             yield record
     except faults.NoRecord:
-        raise NotShown(
-            "There is no record here.",
-            "No record of the archive begins at this offset and has this length.",
-            404,
-        ) from None
+        raise NotShown("There is no record here.", "No record of the archive begins at this offset and has this length.", 404) from None
     except (Fault, ReplyTooLate, Unreadable) as error:
         work.go_on()
         raise NotShown("The record can't be read.", reason_of(error), 502) from error
@@ -200,9 +185,7 @@ class Download:
     iterator, in place of the last piece, if the record isn't whole or its archive is damaged there.
     """
 
-    def __init__(
-        self, stack: contextlib.ExitStack, record: RecordStream, what: str, work: Work
-    ) -> None:
+    def __init__(self, stack: contextlib.ExitStack, record: RecordStream, what: str, work: Work) -> None:
         self.head = record.head
         self.size = record.size if what == "record" else None
         if what == "payload" and not (record.http and record.http.content_codings):

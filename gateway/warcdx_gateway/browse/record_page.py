@@ -28,14 +28,10 @@ _VERDICTS = {
     Verdict.UNKNOWN: ("open", "Not compared: {name} has another algorithm or form."),
     Verdict.ABSENT: ("open", "No digest: the record has no {name}."),
     Verdict.ELSEWHERE: ("open", "{name} is the digest of a payload that isn't in the record."),
-    Verdict.EMPTY: (
-        "open",
-        "{name} is the digest of no bytes, which some crawlers write into each revisit.",
-    ),
+    Verdict.EMPTY: ("open", "{name} is the digest of no bytes, which some crawlers write into each revisit."),
 }
 _HELD = (
-    "Images and style sheets are those of the archive. Scripts, forms, links and everything else "
-    "that the page would fetch are blocked."
+    "Images and style sheets are those of the archive. Scripts, forms, links and everything else " "that the page would fetch are blocked."
 )
 _TOO_LONG = f"Not compared: the block has more than {MOST_VERIFIED:,} bytes."
 
@@ -73,14 +69,7 @@ def record_page(gateway: Gateway, collection: Collection, capture: Capture) -> R
 def _around(before: Optional[Capture], after: Optional[Capture]) -> Child:
     """Returns the links to the captures of the URL before and after this one."""
     links = [
-        element(
-            "li",
-            followed(
-                f"{words}: {dates.in_words(each.timestamp)}",
-                record_link(each),
-                rel="prev" if each is before else "next",
-            ),
-        )
+        element("li", followed(f"{words}: {dates.in_words(each.timestamp)}", record_link(each), rel="prev" if each is before else "next"))
         for each, words in ((before, "Previous capture"), (after, "Next capture"))
         if each is not None
     ]
@@ -142,18 +131,11 @@ def _payload(record: Read, capture: Capture) -> Markup:
     payload, size = record.payload, len(record.payload.content)
     count = dates.many(size, "byte")
     if payload.fault:
-        words = (
-            f"The payload can't be unpacked to its end. {payload.fault} "
-            f"The first {count} were unpacked."
-        )
+        words = f"The payload can't be unpacked to its end. {payload.fault} " f"The first {count} were unpacked."
     elif not payload.is_whole:
         words = f"The payload has more than {MOST_SHOWN:,} bytes."
     else:
-        words = (
-            f"The payload has {count}, without the codings of HTTP."
-            if size
-            else "The payload is empty."
-        )
+        words = f"The payload has {count}, without the codings of HTTP." if size else "The payload is empty."
     if payload.stored_otherwise:
         codings = cut(", ".join(payload.stored_otherwise), MOST_VALUE)
         words += f" The HTTP header names codings that the record is stored without: {codings}."
@@ -168,13 +150,7 @@ def _payload(record: Read, capture: Capture) -> Markup:
     elif size:
         words += f" It isn't shown, for its type is {kind}. It can be saved."
     return element(
-        "section",
-        element("h2", "Payload"),
-        element("p", words),
-        shown,
-        _downloads(capture, bool(size)),
-        class_="card",
-        id="payload",
+        "section", element("h2", "Payload"), element("p", words), shown, _downloads(capture, bool(size)), class_="card", id="payload"
     )
 
 
@@ -216,22 +192,10 @@ def _fields(words: str, fields: Sequence[tuple[str, str]]) -> Markup:
         left -= sum(map(len, shown))
         if left < 0:
             break
-        rows.append(
-            row(
-                names,
-                element("code", shown[0]) if name else "(first line)",
-                element("code", shown[1]),
-            )
-        )
+        rows.append(row(names, element("code", shown[0]) if name else "(first line)", element("code", shown[1])))
     rest = len(fields) - len(rows)
-    more = (
-        element("p", f"{dates.many(rest, 'field')} more: save the record to see all.")
-        if rest
-        else None
-    )
-    return element(
-        "section", element("h2", words), table(words, names, rows, "fields"), more, class_="card"
-    )
+    more = element("p", f"{dates.many(rest, 'field')} more: save the record to see all.") if rest else None
+    return element("section", element("h2", words), table(words, names, rows, "fields"), more, class_="card")
 
 
 def _original(original: Optional[Capture]) -> Markup:
@@ -239,9 +203,5 @@ def _original(original: Optional[Capture]) -> Markup:
         words: Child = "No capture with its digest is in the indexes of the collection."
     else:
         when = followed(dates.in_words(original.timestamp), record_link(original))
-        words = joined(
-            "The payload is that of the capture of ", when, ", which has the same digest."
-        )
-    return element(
-        "section", element("h2", "The original of this revisit"), element("p", words), class_="card"
-    )
+        words = joined("The payload is that of the capture of ", when, ", which has the same digest.")
+    return element("section", element("h2", "The original of this revisit"), element("p", words), class_="card")

@@ -13,8 +13,7 @@ COMMON = {
 }
 # A page has no script, and nothing of another origin. No other page may show it in a frame.
 PAGE_POLICY = (
-    "default-src 'none'; style-src 'self'; img-src 'self'; frame-src 'self'; form-action 'self'; "
-    "base-uri 'none'; frame-ancestors 'none'"
+    "default-src 'none'; style-src 'self'; img-src 'self'; frame-src 'self'; form-action 'self'; " "base-uri 'none'; frame-ancestors 'none'"
 )
 # What an archive holds has its own origin, runs no script, fetches nothing and sends no form.
 # Its images and style sheets are those that `embedding` has put into it.
@@ -70,8 +69,5 @@ def disposition(name: str) -> str:
 def file_name(text: str) -> str:
     """Returns a file name without folders, controls, marks of direction and a dot in front."""
     last = text.replace("\\", "/").rstrip("/").rpartition("/")[2]
-    kept = "".join(
-        "_" if unicodedata.category(each)[0] in "CZ" or each in '<>:"|?*%' else each
-        for each in last
-    )
+    kept = "".join("_" if unicodedata.category(each)[0] in "CZ" or each in '<>:"|?*%' else each for each in last)
     return kept[-_MOST_NAME:].strip(". ") or "download"

@@ -111,9 +111,7 @@ def start(gateway: Gateway, collection: Collection, request: Request) -> Respons
 
 def search_of(gateway: Gateway, collection: Collection, request: Request) -> Response:
     query = request.args
-    return search_page(
-        gateway, collection, Search.of(query), query.get("year", ""), query.get("after", "")
-    )
+    return search_page(gateway, collection, Search.of(query), query.get("year", ""), query.get("after", ""))
 
 
 def captures_of(gateway: Gateway, collection: Collection, request: Request) -> Response:

@@ -14,9 +14,7 @@ from .searching import Search
 _YEAR = re.compile("[0-9]{4}")
 
 
-def search_page(
-    gateway: Gateway, collection: Collection, search: Search, year: str, after: str
-) -> Response:
+def search_page(gateway: Gateway, collection: Collection, search: Search, year: str, after: str) -> Response:
     """Returns the page of a search.
 
     It has the calendar of a year, for one URL that of the last year with captures by default.
@@ -39,13 +37,7 @@ def search_page(
         heading(search),
         element("p", caption(counts, search)),
         _years(counts, search, chosen),
-        element(
-            "div",
-            _year(counts, search, chosen) if chosen else None,
-            listed,
-            id="year",
-            class_="year-and-list",
-        ),
+        element("div", _year(counts, search, chosen) if chosen else None, listed, id="year", class_="year-and-list"),
     ]
     return collection_page(collection, title_of(search), *content, search=search)
 
@@ -71,24 +63,16 @@ def _year(counts: Counts, search: Search, chosen: str) -> Markup:
     return element("section", element("h2", words), drawn, class_="card")
 
 
-def captures_page(
-    gateway: Gateway, collection: Collection, search: Search, after: str
-) -> Response:
+def captures_page(gateway: Gateway, collection: Collection, search: Search, after: str) -> Response:
     """Returns the list of the captures of a search, for example of a day."""
     found = lists.captures(gateway, collection, search, after)
     words = "Captures"
     if search.first and search.first == search.last:
         where = "on" if len(search.first) == 8 else "in"
         words += f" {where} {dates.period_in_words(search.first)}"
-    back = element(
-        "p",
-        element("a", "All years of this search", href=search.ever().link("search")),
-        class_="back",
-    )
+    back = element("p", element("a", "All years of this search", href=search.ever().link("search")), class_="back")
     listed = lists.captures_section(found, search, words)
-    return collection_page(
-        collection, title_of(search), heading(search), back, listed, search=search
-    )
+    return collection_page(collection, title_of(search), heading(search), back, listed, search=search)
 
 
 def title_of(search: Search) -> str:
@@ -98,9 +82,7 @@ def title_of(search: Search) -> str:
 def heading(search: Search) -> Markup:
     """Returns the head of a page, with what is searched for."""
     domain, prefix = "Host and all hosts below it", "URLs that begin with"
-    what = {"host": "Host", "domain": domain, "prefix": prefix}.get(
-        search.match, domain if search.typed.startswith("*.") else prefix
-    )
+    what = {"host": "Host", "domain": domain, "prefix": prefix}.get(search.match, domain if search.typed.startswith("*.") else prefix)
     if search.is_single:
         what = "URL"
     return element("hgroup", element("p", what), element("h1", element("bdi", search.shown)))
@@ -117,42 +99,21 @@ def caption(counts: Counts, search: Search) -> Markup:
         undated = f" The time of {dates.many(counts.undated, 'capture')} is no date."
     if counts.is_whole:
         return joined(f"{dates.many(counts.total, 'capture')} {when}.{undated}")
-    rest = (
-        "The captures after these aren't in the drawings. "
-        "Search for a shorter time to count them all."
-    )
-    order = (
-        f"up to {dates.in_words(counts.last)}"
-        if search.is_single
-        else "in the order of their URL keys"
-    )
-    return element(
-        "strong",
-        f"Only the first {counts.total:,} captures were counted, {order}, {when}.{undated} {rest}",
-    )
+    rest = "The captures after these aren't in the drawings. " "Search for a shorter time to count them all."
+    order = f"up to {dates.in_words(counts.last)}" if search.is_single else "in the order of their URL keys"
+    return element("strong", f"Only the first {counts.total:,} captures were counted, {order}, {when}.{undated} {rest}")
 
 
 def nothing(search: Search) -> Markup:
     """Returns that there is no capture, and where there may be one."""
     hints: list[Child] = []
     if search.first or search.last:
-        hints.append(
-            element("li", element("a", "Search at any time", href=search.ever().link("search")))
-        )
+        hints.append(element("li", element("a", "Search at any time", href=search.ever().link("search"))))
     if search.is_single and search.typed:
-        for match, words in (
-            ("prefix", "Search for URLs that begin with it"),
-            ("host", "Search the whole host"),
-        ):
-            hints.append(
-                element("li", element("a", words, href=search.ever().link("search", match=match)))
-            )
+        for match, words in (("prefix", "Search for URLs that begin with it"), ("host", "Search the whole host")):
+            hints.append(element("li", element("a", words, href=search.ever().link("search", match=match))))
     when = ""
     if search.first or search.last:
         first, last = (dates.typed(each) for each in (search.first, search.last))
         when = f" in the time from {first or 'the first'} to {last or 'the last'}"
-    return joined(
-        heading(search),
-        element("p", f"The collection has no capture of this{when}."),
-        element("ul", hints) if hints else None,
-    )
+    return joined(heading(search), element("p", f"The collection has no capture of this{when}."), element("ul", hints) if hints else None)

@@ -36,8 +36,7 @@ REASONS = {
     "QueryTooLong": "It has more than 65,536 bytes.",
     "NotText": "It isn't a text in UTF-8.",
     "BadMatch": "There is no such match.",
-    "BadStamp": "A time is a year, a year and a month, or a year, a month and a day: 2016, 2016-03 "
-    "or 2016-03-01.",
+    "BadStamp": "A time is a year, a year and a month, or a year, a month and a day: 2016, 2016-03 " "or 2016-03-01.",
     "BadResume": "The place at which the list was to continue isn't one.",
     "NoUrl": "Nothing was typed.",
     "BadUrl": "It isn't a URL that the URL Standard accepts. All URLs of a host are "
@@ -72,10 +71,7 @@ class Search:
             raise NotShown("The search was refused.", REASONS["NoUrl"])
         if search.match not in MATCHES:
             raise NotShown(f"The match “{search.match}” was refused.", REASONS["BadMatch"])
-        for typed, digits in (
-            (query.get("from", ""), search.first),
-            (query.get("to", ""), search.last),
-        ):
+        for typed, digits in ((query.get("from", ""), search.first), (query.get("to", ""), search.last)):
             if digits and not _DIGITS.fullmatch(digits):
                 raise NotShown(f"The time “{typed}” was refused.", REASONS["BadStamp"])
         return search

@@ -30,10 +30,7 @@ _AFTER = "\U0010ffff 00000000000000 - 0"
 
 def start_page(gateway: Gateway, collection: Collection) -> Response:
     summary = None if collection.rules else summary_of(collection)
-    content: list[Child] = [
-        element("h1", collection.title),
-        element("p", "Search for a URL or a host to see when it was captured."),
-    ]
+    content: list[Child] = [element("h1", collection.title), element("p", "Search for a URL or a host to see when it was captured.")]
     if summary is not None:
         content += _summary(summary)
     else:
@@ -75,20 +72,12 @@ def _summary(summary: Mapping[str, Any]) -> list[Child]:
         counts = Counts(years=Counter(years), total=sum(years.values()))
         found.append(
             element(
-                "section",
-                element("h2", "Years"),
-                calendars.draw_years(counts, None),
-                calendars.years_table(counts, None),
-                class_="card",
+                "section", element("h2", "Years"), calendars.draw_years(counts, None), calendars.years_table(counts, None), class_="card"
             )
         )
     tables = [
         _table(words, one, _counts(summary.get(name)))
-        for name, words, one in (
-            ("hosts", "Hosts", "Host"),
-            ("types", "Types", "Type"),
-            ("statuses", "Statuses", "Status"),
-        )
+        for name, words, one in (("hosts", "Hosts", "Host"), ("types", "Types", "Type"), ("statuses", "Statuses", "Status"))
     ]
     found.append(element("div", tables, class_="columns"))
     found.append(_damaged(summary.get("damaged")))
@@ -111,13 +100,8 @@ def _table(words: str, one: str, counts: Mapping[str, int]) -> Child:
         return None
     names = {"value": one, "count": "Captures"}
     most = sorted(counts.items(), key=lambda each: -each[1])[:MOST_ROWS]
-    rows = (
-        row(names, _host(value) if one == "Host" else cut(value, _MOST_NAME), f"{count:,}")
-        for value, count in most
-    )
-    return element(
-        "section", element("h2", words), table(words, names, rows, "counts"), class_="card"
-    )
+    rows = (row(names, _host(value) if one == "Host" else cut(value, _MOST_NAME), f"{count:,}") for value, count in most)
+    return element("section", element("h2", words), table(words, names, rows, "counts"), class_="card")
 
 
 def _host(host: str) -> Child:
