@@ -127,18 +127,18 @@ def rows(folder: pathlib.Path) -> Iterator[Row]:
     common_crawl = [respelled(index, "common-crawl", of_common_crawl) for index in one]
     dense = [respelled(index, "dense", without_blanks) for index in one]
     escapes = [respelled(index, "escapes", with_an_escape) for index in one]
-    yield Row("list of a file, a record of 20 kB", ["list"], *archives, 2900, True)
+    yield Row("list of a file, a record of 20 kB", ["list"], *archives, 2870, True)
     yield Row("index of a file, a capture", ["index"], *crawls, 8200, True)
-    yield Row("check, a line", ["check"], *one, 900, True)
-    yield Row("check, a line of Common Crawl", ["check"], *common_crawl, 1850)
-    yield Row("check, a line without blanks", ["check"], *dense, 2200)
-    yield Row("check, a line with numbers", ["check"], *numbers, 2150)
-    yield Row("check, a line with an escape", ["check"], *escapes, 1750)
+    yield Row("check, a line", ["check"], *one, 850, True)
+    yield Row("check, a line of Common Crawl", ["check"], *common_crawl, 1720)
+    yield Row("check, a line without blanks", ["check"], *dense, 1530)
+    yield Row("check, a line with numbers", ["check"], *numbers, 1710)
+    yield Row("check, a line with an escape", ["check"], *escapes, 1620)
     yield Row("merge of 4 files, a line that is read", ["merge"], *four, 1500, True)
     yield Row("merge of 1,024 files, a line that is read", ["merge"], *many, 1850, True)
-    yield Row("query of all lines as text, a line", ["query", QUERY], *one, 1800)
-    yield Row("the same as json", ["query", f"{QUERY}&output=json"], *one, 1850)
-    yield Row("the same as cdxj", ["query", f"{QUERY}&output=cdxj"], *one, 1400)
+    yield Row("query of all lines as text, a line", ["query", QUERY], *one, 1740)
+    yield Row("the same as json", ["query", f"{QUERY}&output=json"], *one, 1810)
+    yield Row("the same as cdxj", ["query", f"{QUERY}&output=cdxj"], *one, 1350)
     yield Row("query of lines with numbers, as text", ["query", QUERY], *numbers, None)
     yield Row("the same with a filter", ["query", f"{QUERY}&filter=statuscode:200"], *numbers, None)
 
