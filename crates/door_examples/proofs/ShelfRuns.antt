@@ -5,7 +5,7 @@ use Rattle.devices.specs.Gathered.{gathered, gather_failures}
 use Rattle.devices.specs.declared.memory.Gather.{Gather}
 use Rattle.outcomes.specs.declared.outcome.Outcome.TheVariants as outcomes
 use Rattle.tasks.specs.Performing.{Performs}
-use Rattle.tasks.specs.Running.{Begins, EndsWith0, IsDoneAndFlushed}
+use Rattle.tasks.specs.Running.{Begins, EndsWith0}
 use Rattle.index_core.specs.Laws.{PlainIsWhole}
 use Rattle.door_examples.specs.Archives.{a_archive}
 use Rattle.door_examples.specs.Shelf.{archive_name, index_name, query_line, shelf}

@@ -1,7 +1,7 @@
 -- Walks over the records of an archive.
 use Rattle.index_core.proofs.Words.{◌≡◌, ◌∙◌, ℕ, List, [], ◌∷◌, Some, Ok}
-use Rattle.index_core.proofs.Words.{length, drop, ap, refl, append-nil, arith, drop-append_seam}
-use Rattle.index_core.proofs.Words.{HeadView, Walks, read-spelled, two-walks}
+use Rattle.index_core.proofs.Words.{length, drop, ap, refl, arith, drop-append_seam}
+use Rattle.index_core.proofs.Words.{HeadView, Walks, read-spelled}
 use Rattle.warc_core.specs.Walk.{record_at}
 use Rattle.warc_core.proofs.ArchiveLemmas.{walk-front}
 

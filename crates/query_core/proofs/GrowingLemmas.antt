@@ -1,8 +1,8 @@
 -- Pages of indexes that grow meanwhile.
 use Rattle.query_core.proofs.Words.{[], ℕ, ◌++◌, ◌<◌, ◌≡◌, ◌∙◌, ◌∷◌, ◌⊎◌, Bool, IsIn, List, Member, None, Option, Page, PlaceValue}
 use Rattle.query_core.proofs.Words.{QueryValue, Rises, Some, ap, arith, collection, drop, filter, flat_map, inl, inr, is_above}
-use Rattle.query_core.proofs.Words.{is_gt, matches, member_place, next_after, place_cmp, place_cmp_total, query_captures}
-use Rattle.query_core.proofs.Words.{query_page, refl, rises_filter, rises_rising, same_part, selected, subst, sym, take}
+use Rattle.query_core.proofs.Words.{member_place, next_after, place_cmp, place_cmp_total}
+use Rattle.query_core.proofs.Words.{query_page, refl, rises_filter, rises_rising, selected, subst, sym, take}
 use Rattle.query_core.proofs.Words.{take-append-drop, true}
 use Rattle.std.specs.Prelude.{MatchOption}
 use Rattle.page_core.proofs.PageLaws.{all_taken, split_there}

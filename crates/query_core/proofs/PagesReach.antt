@@ -8,8 +8,8 @@ use Rattle.query_core.proofs.Words.{WrotePagesInPart, answer_text, append-nil, a
 use Rattle.query_core.proofs.Words.{err_from_is_err_and, false, false_from_ne_true, first_size, form_of, grows_by}
 use Rattle.query_core.proofs.Words.{grows_not, grows_on, grows_part, inl, inr, is_some, kept, length, length-append}
 use Rattle.query_core.proofs.Words.{length-take, map, member_place, min, next_of, no_pages, not, page_end, pages_text}
-use Rattle.query_core.proofs.Words.{place_cmp, place_cmp_total, prefix_after, prefix_longer, put, query_page, refl}
-use Rattle.query_core.proofs.Words.{rises_rising, rising, shown_key, sum, sym, take-append_seam, text_so_far, true}
+use Rattle.query_core.proofs.Words.{place_cmp, prefix_after, prefix_longer, put, query_page, refl}
+use Rattle.query_core.proofs.Words.{rising, shown_key, sum, sym, take-append_seam, text_so_far, true}
 use Rattle.query_core.proofs.Words.{two_same, wrote_nothing}
 use Rattle.merge_core.specs.SourceLines.{HoldsOfLines}
 use Rattle.merge_core.proofs.CollectedLemmas.{collection_rises, of_lines}

@@ -1,7 +1,7 @@
 -- The replies to the lines of an input, so far and at its end.
 use Rattle.query_core.proofs.Words.{[], ℕ, ⊤, ◌++◌, ◌+◌, ◌-◌, ◌<◌, ◌^◌, ◌∙◌, ◌∷◌, ◌≡◌, ◌≤◌, ◌⊎◌, AllGaveWithin, AllZip}
 use Rattle.query_core.proofs.Words.{AnswerFault, Appends, Appends-join, Appends-none, AppendsPrefix, Bool}
-use Rattle.query_core.proofs.Words.{CountsTaken, Err, Ghosts, IsAnswerFaultOf, IsIndex, IsTextReply, Known, LINE_LIMIT, List, Member}
+use Rattle.query_core.proofs.Words.{CountsTaken, Err, Ghosts, IsAnswerFaultOf, IsIndex, Known, LINE_LIMIT, List, Member}
 use Rattle.query_core.proofs.Words.{None, Ok, Option, OverIndexes, QUERY_LIMIT, QueryFault, QueryValue, Some, TakesLine, answer_text, ap}
 use Rattle.query_core.proofs.Words.{append-nil, append_assoc, arith, cases_lt, codes, collection, cut_lines}
 use Rattle.query_core.proofs.Words.{err_from_is_err_and, false, false_from_ne_true, flat_map, flat_map-append}

@@ -9,7 +9,7 @@ use Rattle.cdxj_places.proofs.PlaceOrder.{same_place}
 use Rattle.index_core.specs.Indexing.{AreNamed, in_places}
 use Rattle.query_core.proofs.DropLemmas.{rising_kept}
 use Rattle.query_core.specs.MergeLaws.{of_files}
-use Rattle.scan_core.specs.{Captures.all_captures, Captures.captured_lines, Laws.AreOfOthers, Laws.RemovedIsDropped}
+use Rattle.scan_core.specs.{Captures.all_captures, Laws.AreOfOthers, Laws.RemovedIsDropped}
 
 -- a capture is not of this archive
 abbrev of_other : List ℕ → EntryValue → Bool

@@ -1,7 +1,7 @@
 -- A line that a query selects of the index of an archive is that of a capture.
 use Rattle.query_core.proofs.Words.{[], ◌++◌, ◌∷◌, ◌≡◌, Bool, IsIn, List, Member, QueryValue, append-nil, arith, collection}
-use Rattle.query_core.proofs.Words.{filter, map, member_place, place_cmp, place_cmp_total, refl, rising_members, selected}
-use Rattle.query_core.proofs.Words.{subst, sym}
+use Rattle.query_core.proofs.Words.{filter, map, member_place, place_cmp, place_cmp_total, rising_members, selected}
+use Rattle.query_core.proofs.Words.{subst}
 use Rattle.cdxj_core.specs.{Entries.EntryValue, Entries.entry_place, Members.entry_member}
 use Rattle.index_core.specs.FetchingLaws.{CapturesAreFetched}
 use Rattle.index_core.specs.Indexing.{in_places}
