@@ -23,45 +23,54 @@ class Threads:
 
     def __init__(self, jobs: int) -> None:
         self._jobs = jobs
-        self._threads: list[threading.Thread] = []
         # A function that subprocess calls in the new process would do the same, but makes a start slower the more memory this process has.
         self._front = ("setpriv", "--pdeathsig", "KILL") if shutil.which("setpriv") else ()
-        self._lock = threading.Lock()
+        self._lock = threading.Condition()
         self._running: set[subprocess.Popen[bytes]] = set()
+        self._working = 0  # threads
         self._is_ended = False
 
     def __enter__(self) -> "Threads":
         return self
 
     def __exit__(self, *error: object) -> None:
-        """Ends the programs that run, and refuses others."""
+        """Ends the programs that run, refuses others, and waits for the threads.
+
+        A thread that a signal has kept from being known here begins nothing any more, or is waited for.
+        """
         with self._lock:
             self._is_ended = True
             for process in self._running:
                 process.kill()
-        for thread in self._threads:
-            thread.join()
+            self._lock.wait_for(lambda: not self._working)
 
     def run(self, task: Task, arguments: Sequence[tuple[Any, ...]]) -> Outcomes:
         """Runs a task once with each of these arguments."""
         waiting, outcomes = iter(list(enumerate(arguments))), queue.SimpleQueue[tuple[int, Any]]()
         for _ in arguments[: self._jobs]:
-            thread = threading.Thread(target=self._work, args=(task, waiting, outcomes))
             try:
-                thread.start()
+                threading.Thread(target=self._work, args=(task, waiting, outcomes)).start()
             except RuntimeError as error:
                 raise CannotUpdate(str(error)) from None
-            self._threads.append(thread)
         for _ in arguments:
             yield outcomes.get()
 
     def _work(self, task: Task, waiting: Iterator[tuple[int, Any]], outcomes: "queue.SimpleQueue[tuple[int, Any]]") -> None:
-        for number, each in waiting:
-            try:
-                outcome = task(*each, start=self._start)
-            except BaseException as error:
-                outcome = error
-            outcomes.put((number, outcome))
+        with self._lock:
+            if self._is_ended:
+                return
+            self._working += 1
+        try:
+            for number, each in waiting:
+                try:
+                    outcome = task(*each, start=self._start)
+                except BaseException as error:
+                    outcome = error
+                outcomes.put((number, outcome))
+        finally:
+            with self._lock:
+                self._working -= 1
+                self._lock.notify_all()
 
     def _start(self, command: Sequence[str], **options: Any) -> "subprocess.Popen[bytes]":
         if shutil.which(command[0]) is None:
