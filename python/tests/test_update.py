@@ -7,6 +7,8 @@ import pathlib
 import signal
 import subprocess
 import tempfile
+import threading
+import time
 import unittest
 from collections import Counter
 from collections.abc import Iterator
@@ -14,11 +16,13 @@ from typing import IO, Any, NoReturn
 from unittest import mock
 
 from warcdx import update_tasks
+from warcdx.ending import Ended
 from warcdx.states import MOST_RUNS
 from warcdx.update_archives import Found, FoundArchive, Passed
 from warcdx.update_merges import Merging, batches_of
 from warcdx.update_reports import damage_of
 from warcdx.update_tasks import Failed, _causes_of, _Lines, _whole_lines, add_hosts, index_archives, merge_runs
+from warcdx.update_workers import Threads
 
 from .support import PROGRAM, SAMPLES
 from .test_update_store import in_folder, lines_of
@@ -237,6 +241,40 @@ class TaskTest(unittest.TestCase):
         counts = Counter[bytes]()
         add_hosts(counts, sorted_keys)
         self.assertEqual(counts, {b"a.com": 3, b"b.a.com": 1, b"a.com:80": 1, b"ab.com": 1, b"dns:": 2})
+
+
+class ThreadsTest(unittest.TestCase):
+    """A signal may come while a thread starts: before its first step, or when its task has begun."""
+
+    def test_no_task_goes_on_after_a_signal(self) -> None:
+        start = threading.Thread.start
+        for before, after in ((0.1, 0.0), (0.0, 0.0), (0.0, 0.1)):
+            done = list[str]()
+
+            def task(start: object) -> None:
+                done.append("begun")
+                time.sleep(0.2)
+                done.append("ended")
+
+            def start_and_end(thread: threading.Thread) -> None:
+                run = thread.run
+
+                def run_later() -> None:
+                    time.sleep(before)
+                    run()
+
+                setattr(thread, "run", run_later)
+                start(thread)
+                time.sleep(after)
+                raise Ended(signal.SIGTERM)
+
+            with mock.patch.object(threading.Thread, "start", start_and_end), self.assertRaises(Ended):
+                with Threads(2) as workers:
+                    list(workers.run(task, [(), ()]))
+            at_the_end = list(done)
+            time.sleep(0.5)
+            self.assertEqual(at_the_end, done, (before, after))
+            self.assertEqual(done.count("begun"), done.count("ended"), (before, after))
 
 
 if __name__ == "__main__":
