@@ -23,6 +23,10 @@ abbrev pub ReadsOn : List ℕ → ℕ → List ℕ → Bool → Type 0
 ReadsOn text offset front true = lines (drop offset text) ≡ front ∷ lines (drop (offset + length front) text)
 ReadsOn text offset front false = BeginsWith text offset front
 
+-- the line that begins at the offset begins with these bytes, or is these bytes
+abbrev pub IsFrontOf : List ℕ → ℕ → List ℕ → Type 0
+IsFrontOf text offset front = (ends : Bool) × ReadsOn text offset front ends
+
 -- these first bytes of the line are held of a source, and whether they are all of it
 pub record IsFront (text : Option (List ℕ)) (extent offset : ℕ) (front : List ℕ) (ends : Bool) : Type 0 where
   pub within : offset + length front ≤ extent

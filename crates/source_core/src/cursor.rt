@@ -166,6 +166,8 @@ impl Cursor {
             (self.new.count ≡ self.old.count) (λ _. self.new.count ≡ self.old.count + 1)) }
         ensures there { IfOk result (λ found. MatchOption (line_found found line.new.items)
             (self.new.at ≡ S.extent source.old) (λ l. self.new.at ≡ self.old.at + length l)) }
+        ensures ends { IfOk result (λ found.
+            IfNone (line_found found line.new.items) (self.new.at ≡ self.old.at)) }
         ensures some { IfOk result (λ found.
             IfSome (line_found found line.new.items) (λ l. 0 < length l)) }
         ensures short { length line.new.items ≤ LINE_LIMIT }

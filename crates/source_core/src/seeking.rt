@@ -171,7 +171,29 @@ struct Probed {
     stops: bool,
 }
 
+/// Returns what the source knows of the first line that begins at `middle` or after it, if that
+/// begins before `until`, and shows whether it is below the pair.
+fn known_probe<S: Source>(source: &S, middle: u64, until: u64, start: Pair<'_>) -> Option<Probed>
+    ensures among { IfSome result (λ line. IsAmong middle until line.offset) }
+    ensures line { OverText (S.text source.now) (λ t.
+        IfSome result (λ line. BeginsFrom middle t line.offset)) }
+    ensures stops { OverText (S.text source.now) (λ t.
+        IfSome result (λ line.
+        line.stops ≡ stops (line_below LINE_LIMIT (pair_view start.entry)) middle t)) }
+{
+    let (offset, front) = source.known_line(middle)?;
+    if offset < middle || offset >= until {
+        return None;
+    }
+    let below = front_is_below(front, start)?;
+    Some(Probed {
+        offset,
+        stops: !below,
+    })
+}
+
 /// Looks at the first line that begins at `middle` or after it, if it begins before `until`.
+/// Nothing is read of a line that the source knows well enough.
 fn probe<S: Source>(
     source: &mut S,
     window: &mut Window,
@@ -198,6 +220,10 @@ fn probe<S: Source>(
         S.gave source.new ≤ S.gave source.old + (2 * longest (lines t) + 1024)) }
     ensures bound { S.gave source.new + middle ≤ S.gave source.old + until + LINE_LIMIT }
 {
+    let known = known_probe(source, middle, until, start);
+    if known.is_some() {
+        return Ok(known);
+    }
     match next_line_start(source, window, middle, until)? {
         Some(offset) => {
             let stops = stops_at(source, window, offset, front, start)?;

@@ -1,8 +1,10 @@
 //! Bytes that are read at any offset.
 ghost use Rattle.std.specs.Prelude.{◌≡◌, ◌-◌, ◌^◌, ◌<◌, ◌≤◌, ℕ, Option, List, length, IfSome, IfOk};
 ghost use Rattle.std.specs.Prelude.{MatchResult};
+ghost use Rattle.source_core.specs.IndexLines.{BeginsFrom};
+ghost use Rattle.source_core.specs.LineParts.{IsFrontOf};
 ghost use Rattle.devices.specs.Device.{CountsFailure};
-ghost use Rattle.source_core.specs.Device.{count_on, HoldsPart};
+ghost use Rattle.source_core.specs.Device.{count_on, HoldsPart, OverText};
 
 use thiserror::Error;
 
@@ -44,4 +46,17 @@ pub trait Source {
         ensures gave { MatchResult result (λ n. gave self.new ≡ count_on (gave self.old) n) (λ _.
             gave self.new ≡ gave self.old) }
         ensures failures { CountsFailure result (failures self.old) (failures self.new) };
+
+    /// Returns what is known without a read of the first line that begins at the offset `from` or
+    /// after it: where it begins, and first bytes of it. Most sources know nothing.
+    fn known_line(&self, from: u64) -> Option<(u64, &[u8])>
+        ensures begins { OverText (text self.now) (λ t.
+            IfSome result (λ line. BeginsFrom from t line.0)) }
+        ensures front { OverText (text self.now) (λ t.
+            IfSome result (λ line. IsFrontOf t line.0 line.1.now)) }
+        ensures short { IfSome result (λ line. length line.1.now ≤ 8192) }
+    {
+        let _ = from;
+        None
+    }
 }

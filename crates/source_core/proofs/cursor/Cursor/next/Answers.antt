@@ -57,7 +57,9 @@ pub returns-in_err-extend_from_slice : goal.returns-in_err-extend_from_slice
 returns-in_err-extend_from_slice g c = grind arith
 
 pub returns-then-is_empty : goal.returns-then-is_empty
-returns-then-is_empty g c = grind (arith, common_steps)
+returns-then-is_empty g c =
+    let there : c.loop-self.self-inside.at ≡ c.args.self.now.at = grind arith in
+    grind (arith, common_steps)
 
 pub returns-then-length-len : goal.returns-then-length-len
 returns-then-length-len g c =
