@@ -6,9 +6,12 @@ use Rattle.std.specs.List.{list_all, before_first, after_first}
 use Rattle.std.specs.Str.{IsCharBoundary}
 use Rattle.std.proofs.lemmas.Str.{IsCharBoundary-before_ascii, IsCharBoundary-end}
 use Rattle.std.proofs.Math.Seq.{take-append_seam, get_or-append_seam}
+use Rattle.std.proofs.lemmas.Fmt.{digits_value-decimal}
 use Rattle.cdxj_places.specs.Pair.{is_space, is_key, is_stamp}
+use Rattle.cdxj_places.specs.Places.{offset_of}
+use Rattle.cdxj_places.proofs.Offsets.{own}
+use Rattle.cdxj_places.proofs.PlaceLaw.{offset_text}
 use Rattle.cdxj_objects.specs.declared.members.Members.{Members}
-use Rattle.cdxj_objects.specs.declared.placed.PlacedMembers.{PlacedMembers}
 use Rattle.cdxj_objects.specs.declared.span.Span.{Span}
 use Rattle.cdxj_objects.specs.FoundMembers.{FoundValue, members_in}
 use Rattle.cdxj_objects.specs.MemberValues.{filename_value, offset_value}
@@ -55,10 +58,10 @@ kept_line : (limit : ℕ) (text tail : List ℕ) (member : Member) (s : Spans) �
     → line_entry limit member.line ≡ Some member → text ≡ member.line ++ tail
     → values_of_texts (span_texts text s.texts) ≡ texts_in member.values → s.size ≡ length member.line
     → IsCharBoundary text s.size → s.key ≡ length member.values.key → s.stamp ≡ member.values.stamp
-    → s.offset ≡ member.values.offset → AreSpans text s.texts
+    → AreSpans text s.texts
     → (s.size ≡ length text → ArePlain (span_texts text s.texts))
     → IsKept limit text s (member_in limit (take s.size text))
-kept_line limit text tail member s utf8 entry seam values size line_ends key_size stamp_is offset_is parts plain =
+kept_line limit text tail member s utf8 entry seam values size line_ends key_size stamp_is parts plain =
     let its = entry_valued limit member.line member entry in
     let key = member.values.key in
     let whole = whole_is text member.line key member.values.stamp its.object tail seam its.cut in
@@ -77,7 +80,6 @@ kept_line limit text tail member s utf8 entry seam values size line_ends key_siz
       stamp_ends = there.ends;
       stamp_text = there.is;
       stamp_is = stamp_is;
-      offset_is = offset_is;
       placed = record { parts = parts; texts_are = values };
       key_rule = its.key_rule;
       stamp_rule = its.stamp_rule;
@@ -87,15 +89,14 @@ kept_line limit text tail member s utf8 entry seam values size line_ends key_siz
     })
 
 -- a line in which the texts of its members stand is its own text
-pub placed_kept : (limit : ℕ) (text : List ℕ) (p : FrontPair) (m : PlacedMembers) → IsUtf8 text
+pub placed_kept : (limit : ℕ) (text : List ℕ) (p : FrontPair) (m : Members Span) → IsUtf8 text
     → list_all is_printable text ≡ true → length text < limit → IsFrontPair text p
     → ArePlacedMembers text (p.key + 16) m
     → IsKept limit text (record {
       size = length text;
       key = p.key;
       stamp = p.stamp;
-      offset = m.offset;
-      texts = m.texts;
+      texts = m;
     }) (member_in limit (take (length text) text))
 placed_kept limit text p m utf8 all short pair members =
     let key = p.key in
@@ -107,8 +108,8 @@ placed_kept limit text p m utf8 all short pair members =
     let rest = drop (key + 1) text in
     let stamp = take 14 rest in
     let object = drop (key + 16) text in
-    let filename = span_text text m.texts.filename in
-    let values = line_value front stamp (found_texts members.found m.offset filename) m.offset in
+    let filename = span_text text m.filename in
+    let values = line_value front stamp (found_texts members.found members.offset filename) members.offset in
     let first_cut : text ≡ front ++ 32 ∷ rest = grind (arith, cut_behind text key) in
     let later : drop 15 rest ≡ object = grind (arith, drop-drop 15 (key + 1) text) in
     let there : get_or rest 14 0 ≡ 32 = grind (arith, get_or-drop) in
@@ -121,12 +122,12 @@ placed_kept limit text p m utf8 all short pair members =
     let keys = first_key text front rest first_cut good_key in
     let stamps = first_stamp rest stamp object (stamp_cut, good_stamp) in
     let line = line_found front stamp object members.found members.is in
-    let made = line_made front stamp members.found m.offset filename members.named members.placed in
+    let made = line_made front stamp members.found members.offset filename members.named members.placed in
     let member : Member = record { values = values; line = text } in
     let entry = body_entry limit text front rest stamp object member.values utf8 short (printable_feed text all)
     (grind arith) (grind arith) (grind arith) (grind arith) (grind arith) in
     kept_line limit text [] member _ utf8 entry (sym (append-nil text)) (members.values ∙ refl) refl
-    (grind (arith, IsCharBoundary-end)) (sym size) pair.stamp_is refl members.parts (λ e. members.plain)
+    (grind (arith, IsCharBoundary-end)) (sym size) pair.stamp_is members.parts (λ e. members.plain)
 
 -- a line whose body is read as a text
 pub line_of_text : (limit : ℕ) (line body text : List ℕ) (member : Member) → text ≡ body → body ≡ body_of line
@@ -150,7 +151,6 @@ pub json_kept : (limit : ℕ) (text body key rest stamp object filename : List �
       size = length body;
       key = length key;
       stamp = stamp;
-      offset = offset;
       texts = at;
     }) (member_in limit (take (length body) text))
 json_kept limit text body key rest stamp object filename f offset at utf8 body_utf8 short whole k r t o good_key
@@ -163,7 +163,12 @@ json_kept limit text body key rest stamp object filename f offset at utf8 body_u
     let long : length text ≡ length body + length (plain_text texts) = grind (arith, length-append) in
     kept_line limit text (plain_text texts) member _ utf8 entry spelled.text_is
     (ap values_of_texts spelled.texts_are ∙ grind arith) refl
-    (grind (arith, IsCharBoundary-before_ascii, get_or-append_seam)) refl refl refl spelled.parts (λ e. absurd (omega arith))
+    (grind (arith, IsCharBoundary-before_ascii, get_or-append_seam)) refl refl spelled.parts (λ e. absurd (omega arith))
+
+-- the offset is what its text spells
+pub offset_read : (t : TextsValue) (v : LineValue) → v.offset < 2 ^ 63 → values_of_texts t ≡ texts_in v
+    → offset_of t.offset ≡ Some v.offset
+offset_read t v small same = grind (arith, same, offset_text, digits_value-decimal, own)
 
 -- the key ends before its line
 pub key_short : (limit : ℕ) (line : List ℕ) (member : Member) → line_entry limit line ≡ Some member

@@ -46,7 +46,6 @@ pub record IsKept (limit : ℕ) (text : List ℕ) (s : Spans) (member : Member) 
   pub stamp_ends : IsPartBetween text (s.key + TO_STAMP) (s.key + TO_STAMP_END)
   pub stamp_text : part text (s.key + TO_STAMP) (s.key + TO_STAMP_END) ≡ member.values.stamp
   pub stamp_is : s.stamp ≡ member.values.stamp
-  pub offset_is : s.offset ≡ member.values.offset
   pub placed : AreTextsOf text s.texts member.values
   pub key_rule : is_key member.values.key ≡ true
   pub stamp_rule : is_stamp member.values.stamp ≡ true

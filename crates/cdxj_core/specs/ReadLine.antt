@@ -1,8 +1,8 @@
 -- A line that was read where it stands.
-use Rattle.std.specs.Prelude.{◌≡◌, ℕ, ◌<◌, ◌+◌, List, length, true, IfSome}
+use Rattle.std.specs.Prelude.{◌≡◌, ℕ, ◌<◌, ◌+◌, List, length, true}
 use Rattle.std.specs.List.{list_all}
 use Rattle.cdxj_objects.specs.Plain.{is_printable}
-use Rattle.cdxj_objects.specs.PlainPlaces.{AreBegun}
+use Rattle.cdxj_objects.specs.PlainPlaces.{BeginsWithMembers}
 use Rattle.cdxj_core.specs.declared.line_ref.Begun.{Begun}
 use Rattle.cdxj_core.specs.declared.line_ref.Read.{Read}
 use Rattle.cdxj_core.specs.declared.line_ref.Read.TheVariants.{Written, Begun as Beginning}
@@ -15,7 +15,7 @@ pub record IsBegun (limit : ℕ) (body : List ℕ) (b : Begun) : Type 0 where
   pub short : length b.text.now < limit
   pub printable : list_all is_printable b.text.now ≡ true
   pub pair : IsFrontPair b.text.now b.pair
-  pub fronts : IfSome b.fronts (AreBegun b.text.now (b.pair.key + TO_OBJECT))
+  pub object : BeginsWithMembers b.text.now (b.pair.key + TO_OBJECT) b.object
 
 -- the body was read, or its beginning
 abbrev pub IsReadOf : ℕ → List ℕ → Read → Type 0

@@ -60,6 +60,7 @@ impl Line {
     ghost use Rattle.cdxj_core.specs.Lines.{body_of};
     ghost use Rattle.cdxj_core.specs.Members.{member_place, line_entry, IsLineReading};
     ghost use Rattle.cdxj_core.specs.ReadLine.{IsBegun, IsReadOf};
+    ghost use Rattle.cdxj_places.specs.Places.{place_cmp};
     ghost use Rattle.cdxj_places.specs.PlaceViews.{place_view};
 
     /// Reads a line, with or without its line feed: a key, a space, a stamp, a space and a JSON
@@ -141,7 +142,6 @@ impl Line {
                 size: body.len(),
                 key: key.len(),
                 stamp,
-                offset,
                 texts,
             },
         })
@@ -274,6 +274,13 @@ impl Line {
         self.values().place()
     }
 
+    /// Compares the place of the line's capture with another.
+    pub fn compare_to(&self, place: &Place<'_>) -> Ordering
+        ensures { result ≡ place_cmp (member_place self.now) (place_view place.now) }
+    {
+        self.values().compare_to(place)
+    }
+
     /// Returns the line without its line feed.
     pub fn line(&self) -> &[u8]
         ensures value { result.now ≡ self.now.line }
@@ -293,6 +300,6 @@ impl HasPlace for Line {
     }
 
     fn compare_place(&self, other: &Line) -> Ordering {
-        self.place().compare_place(&other.place())
+        self.values().compare_place(&other.values())
     }
 }

@@ -8,10 +8,10 @@ use crate::front_pair::{FrontPair, front_pair};
 use crate::limit::LINE_LIMIT;
 use crate::spans::{Spans, TO_OBJECT, TO_STAMP, TO_STAMP_END};
 use cdxj_objects::{
-    Members, Placed, PlacedMembers, PlainFronts, or_missing, place_of_either, placed_members,
-    texts_at, walked_members,
+    BegunMembers, Members, Placed, Span, or_missing, place_of_either, placed_members, texts_at,
+    walked_members,
 };
-use cdxj_places::{HasPlace, Pair, Place};
+use cdxj_places::{HasPlace, Pair, Place, read_offset};
 use std::cmp::Ordering;
 use std::marker::Model;
 
@@ -27,7 +27,7 @@ pub struct LineRef<'a> {
 pub(crate) struct Begun<'a> {
     text: &'a str,
     pair: FrontPair,
-    fronts: Option<PlainFronts>,
+    object: BegunMembers,
 }
 
 /// A line that was read where it stands, or its beginning.
@@ -52,12 +52,15 @@ impl<'a> Model for LineRef<'a> {
 }
 
 impl<'a> LineRef<'a> {
-    ghost use Rattle.std.specs.Prelude.{◌<◌, ◌+◌, length, Some};
+    ghost use Rattle.std.specs.Prelude.{◌<◌, ◌+◌, ◌^◌, length, Some};
+    ghost use Rattle.std.specs.Cmp.Lexicographic.{slice_cmp};
     ghost use Rattle.std.specs.List.{list_all};
+    ghost use Rattle.std.specs.Ordering.{nat_cmp, ordering_then};
     ghost use Rattle.cdxj_objects.specs.Plain.{is_printable, is_printable_ascii};
     ghost use Rattle.cdxj_core.specs.KeptLine.{IsEntryOf, IsFrontPair};
     ghost use Rattle.cdxj_core.specs.ReadLine.{IsBegun, IsReadOf};
     ghost use Rattle.json.specs.Run.{is_plain};
+    ghost use Rattle.cdxj_places.specs.Places.{place_cmp};
     ghost use Rattle.cdxj_places.specs.PlaceViews.{place_view};
     ghost use Rattle.cdxj_core.specs.declared.field.Field.{Field};
     ghost use Rattle.cdxj_objects.specs.PlacedMembers.{ArePlacedMembers};
@@ -109,10 +112,8 @@ impl<'a> LineRef<'a> {
     {
         let pair = front_pair(text)?;
         match placed_members(text, pair.key + TO_OBJECT) {
-            Placed::Written(members) => {
-                Some(Read::Written(LineRef::of_parts(text, pair, members)))
-            }
-            Placed::Other(fronts) => Some(Read::Begun(Begun { text, pair, fronts })),
+            Placed::Written(texts) => Some(Read::Written(LineRef::of_parts(text, pair, texts))),
+            Placed::Other(object) => Some(Read::Begun(Begun { text, pair, object })),
         }
     }
 
@@ -123,17 +124,17 @@ impl<'a> LineRef<'a> {
         requires { IsBegun LINE_LIMIT begun.text.now begun }
         ensures { IfSome result (IsEntryOf LINE_LIMIT begun.entry.text.now) }
     {
-        let Begun { text, pair, fronts } = begun;
-        let members = walked_members(text, pair.key + TO_OBJECT, fronts)?;
-        Some(LineRef::of_parts(text, pair, members))
+        let Begun { text, pair, object } = begun;
+        let texts = walked_members(text, pair.key + TO_OBJECT, object)?;
+        Some(LineRef::of_parts(text, pair, texts))
     }
 
     #[inline(always)]
-    fn of_parts(text: &'a str, pair: FrontPair, members: PlacedMembers) -> LineRef<'a>
+    fn of_parts(text: &'a str, pair: FrontPair, texts: Members<Span>) -> LineRef<'a>
         requires short { length text.now < LINE_LIMIT }
         requires printable { list_all is_printable text.now ≡ true }
         requires pair { IsFrontPair text.now pair }
-        requires members { ArePlacedMembers text.now (pair.key + TO_OBJECT) members }
+        requires texts { ArePlacedMembers text.now (pair.key + TO_OBJECT) texts }
         ensures { line_entry LINE_LIMIT text.now ≡ Some result }
     {
         let FrontPair { key, stamp } = pair;
@@ -143,8 +144,7 @@ impl<'a> LineRef<'a> {
                 size: text.len(),
                 key,
                 stamp,
-                offset: members.offset,
-                texts: members.texts,
+                texts,
             },
         }
     }
@@ -172,6 +172,19 @@ impl<'a> LineRef<'a> {
         texts_at(self.text, &self.spans.texts)
     }
 
+    /// Returns the offset. It is read from its text each time, since few lines need it.
+    fn offset(&self) -> u64
+        ensures value { result ≡ self.now.values.offset }
+        ensures small { result < 2 ^ 63 }
+    {
+        // For the proof alone: what the type says of the offset.
+        let _size = self.spans.size;
+        match read_offset(self.texts().offset) {
+            Some(offset) => offset,
+            None => unreachable!(),
+        }
+    }
+
     /// Returns the key and the stamp.
     #[inline(always)]
     pub fn pair(&self) -> Pair<'a>
@@ -193,7 +206,29 @@ impl<'a> LineRef<'a> {
             key: self.key(),
             stamp: self.spans.stamp,
             filename: self.texts().filename,
-            offset: self.spans.offset,
+            offset: self.offset(),
+        }
+    }
+
+    /// Compares the part of the line's place behind its key and stamp with that of another.
+    fn compare_behind_pair(&self, place: &Place<'_>) -> Ordering
+        ensures { result
+            ≡ ordering_then (slice_cmp nat_cmp self.now.values.filename place.now.filename.now)
+            (nat_cmp self.now.values.offset place.now.offset) }
+    {
+        match self.texts().filename.cmp(place.filename) {
+            Ordering::Equal => self.offset().cmp(&place.offset),
+            decided => decided,
+        }
+    }
+
+    /// Compares the place of the line's capture with another.
+    pub fn compare_to(&self, place: &Place<'_>) -> Ordering
+        ensures { result ≡ place_cmp (member_place self.now) (place_view place.now) }
+    {
+        match self.pair().cmp(&place.pair()) {
+            Ordering::Equal => self.compare_behind_pair(place),
+            decided => decided,
         }
     }
 
@@ -240,6 +275,6 @@ impl<'a> HasPlace for LineRef<'a> {
     }
 
     fn compare_place(&self, other: &LineRef<'a>) -> Ordering {
-        self.place().compare_place(&other.place())
+        self.compare_to(&other.place())
     }
 }

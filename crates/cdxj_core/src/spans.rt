@@ -19,6 +19,5 @@ pub(crate) struct Spans {
     /// The end of the key, which begins the line.
     pub key: usize,
     pub stamp: [u8; 14],
-    pub offset: u64,
     pub texts: Members<Span>,
 }

@@ -5,6 +5,7 @@ use Rattle.std.specs.List.{list_all}
 use Rattle.std.proofs.lemmas.List.{drop_more}
 use Rattle.json.specs.Run.{is_plain}
 use Rattle.cdxj_objects.specs.declared.members.Members.{Members as Seven}
+use Rattle.cdxj_objects.specs.declared.plain.FirstTwo.{FirstTwo}
 use Rattle.cdxj_objects.specs.declared.plain.PlainFronts.{PlainFronts}
 use Rattle.cdxj_objects.specs.declared.span.Span.{Span}
 use Rattle.cdxj_objects.specs.declared.walk.FirstMembers.{FirstMembers}
@@ -12,7 +13,7 @@ use Rattle.cdxj_objects.specs.declared.walk.Name.{Name}
 use Rattle.cdxj_objects.specs.declared.walk.Name.TheVariants.{Mime, Status, Digest, Length, Offset, Filename}
 use Rattle.cdxj_objects.specs.ObjectMembers.{AllMembers, all_members, names, with_named}
 use Rattle.cdxj_objects.specs.Plain.{first_front, is_printable, later_front}
-use Rattle.cdxj_objects.specs.PlainPlaces.{AreBegun, IsTextAfter, spans_to}
+use Rattle.cdxj_objects.specs.PlainPlaces.{AreBegun, AreFirstTwo, IsTextAfter, spans_of_two, spans_to}
 use Rattle.cdxj_objects.specs.Spans.{part}
 use Rattle.cdxj_objects.specs.Walk.{AreFirst, IsPlainSpan, IsTurn, name_of, text}
 use Rattle.cdxj_objects.proofs.PlainBytes.{list_all_plain}
@@ -113,17 +114,30 @@ module _ (t : List ℕ) (object : ℕ) (all : list_all is_printable t ≡ true) 
       subst (λ n. HasBegun m.end (record (spans_to m.end m.at) { url = record { start = n + 9; end = m.at.mime } }))
       (sym begun.begins) seven
 
+  pub two_members : (m : FirstTwo) → AreFirstTwo t object m → m.mime_end < length t → get_or t m.mime_end 0 ≡ 34
+      → HasBegun m.mime_end (spans_of_two object m nowhere)
+  two_members m begun inside closes =
+      let mime = byte_there t m.url_end 34 _ begun.mime.is in
+      let one = first_begun m.url_end begun.url mime.0 mime.1 in
+      next_begun Mime m.url_end m.mime_end _ one begun.mime inside closes
+
   pub first_walked : (first : FirstMembers) → AreFirst t object first → HasWalked t object first.at first.spans
   first_walked first (inl (m, begun, quote, is)) =
       subst (λ n. HasWalked t object n first.spans) (sym quote.2)
       (subst (λ spans. HasWalked t object (m.end + 1) spans) (sym is) (begun_members m begun quote.0 quote.1).0)
-  first_walked first (inr any) = any_first t object first.at (all_members nowhere) first.spans refl any
+  first_walked first (inr (inl (m, begun, quote, is))) =
+      subst (λ n. HasWalked t object n first.spans) (sym quote.2)
+      (subst (λ spans. HasWalked t object (m.mime_end + 1) spans) (sym is) (two_members m begun quote.0 quote.1).0)
+  first_walked first (inr (inr any)) = any_first t object first.at (all_members nowhere) first.spans refl any
 
   pub first_stand : (first : FirstMembers) → AreFirst t object first → AllMembers (IsPlainSpan t) first.spans
   first_stand first (inl (m, begun, quote, is)) =
       subst (AllMembers (IsPlainSpan t)) (sym is) (begun_members m begun quote.0 quote.1).1
-  first_stand first (inr any) = any.turn.stand (none_stand t)
+  first_stand first (inr (inl (m, begun, quote, is))) =
+      subst (AllMembers (IsPlainSpan t)) (sym is) (two_members m begun quote.0 quote.1).1
+  first_stand first (inr (inr any)) = any.turn.stand (none_stand t)
 
   pub first_inside : (first : FirstMembers) → AreFirst t object first → first.at ≤ length t
   first_inside first (inl (m, begun, quote, is)) = omega (arith, quote.0, quote.2)
-  first_inside first (inr any) = any.behind.inside
+  first_inside first (inr (inl (m, begun, quote, is))) = omega (arith, quote.0, quote.2)
+  first_inside first (inr (inr any)) = any.behind.inside

@@ -4,6 +4,7 @@ use Rattle.std.proofs.Common.{refl, ap, sym, ◌∙◌, ◌+◌, ◌≤◌, ◌�
 use Rattle.std.proofs.lemmas.List.{drop_more}
 use Rattle.std.specs.Char.{is_ascii_digit}
 use Rattle.std.specs.List.{list_all}
+use Rattle.std.specs.Str.Parse.{digits_value}
 use Rattle.std.proofs.lemmas.Fmt.{decimal_nonempty, digits_decimal, digits_value-decimal}
 use Rattle.serde_json.specs.Data.{Data, null, boolean, string, number, unsigned, negative, float, array, object}
 use Rattle.cdxj_places.specs.Places.{offset_of}
@@ -13,7 +14,7 @@ use Rattle.cdxj_objects.specs.declared.members.Members.{Members}
 use Rattle.cdxj_objects.specs.declared.plain.PlainFronts.{PlainFronts}
 use Rattle.cdxj_objects.specs.declared.span.Span.{Span}
 use Rattle.cdxj_objects.specs.FoundMembers.{FoundValue, raw_text}
-use Rattle.cdxj_objects.specs.MemberValues.{filename_value, offset_value, value_text}
+use Rattle.cdxj_objects.specs.MemberValues.{IsDecimal, filename_value, offset_value, value_text}
 use Rattle.cdxj_objects.specs.ObjectMembers.{AllMembers, map_members}
 use Rattle.cdxj_objects.specs.PlacedMembers.{ArePlacedMembers}
 use Rattle.cdxj_objects.specs.Plain.{is_printable, values_of_texts}
@@ -82,11 +83,13 @@ walked_values f offset filename fit placed named =
       raw_value f.length fit.length,
     )
 
-pub walked_placed : (text : List ℕ) (at : ℕ) (spans : Members Span) (offset : ℕ) → IsUtf8 text
+pub walked_placed : (text : List ℕ) (at : ℕ) (spans : Members Span) → IsUtf8 text
     → AreWalked text at spans → list_all is_ascii_digit (span_text text spans.filename) ≡ false
-    → offset_of (span_text text spans.offset) ≡ Some offset → span_text text spans.offset ≡ decimal offset
-    → ArePlacedMembers text at (record { texts = spans; offset = offset })
-walked_placed text at spans offset utf8 walked name value written =
+    → IsDecimal (span_text text spans.offset) → ArePlacedMembers text at spans
+walked_placed text at spans utf8 walked name written =
+    let offset = digits_value 10 (span_text text spans.offset) in
+    let value : offset_of (span_text text spans.offset) ≡ Some offset =
+    grind (arith, offset_text, digits_value-decimal, own, written.is, written.small) in
     let found = walked.found in
     let texts = walked.texts in
     let name_is : raw_text found.filename ≡ span_text text spans.filename = ap (λ t. t.filename) texts in
@@ -94,11 +97,12 @@ walked_placed text at spans offset utf8 walked name value written =
     let named = raw_named found.filename walked.fit.filename (ap (list_all is_ascii_digit) name_is ∙ name) in
     record {
       found = found;
+      offset = offset;
       is = walked.is;
       named = named ∙ ap Some name_is;
       placed = raw_placed found.offset offset walked.fit.offset (ap offset_of offset_is ∙ value);
       values = ap values_of_texts (sym texts) ∙ walked_values found offset (span_text text spans.filename) walked.fit
-          (offset_is ∙ written) name_is;
+          (offset_is ∙ written.is) name_is;
       parts = record {
         url = walked.stand.url.cut utf8;
         mime = walked.stand.mime.cut utf8;
@@ -122,8 +126,8 @@ walked_placed text at spans offset utf8 walked name value written =
 -- ---- an offset
 
 pub offset_spelled : (text : List ℕ) (n : ℕ) → offset_of text ≡ Some n → n < 2 ^ 63
-    → (1 < length text → get_or text 0 0 ≡ 48 → ⊥) → text ≡ decimal n
-offset_spelled text n is small zeros = grind (arith, cuts.digits_decimal)
+    → (1 < length text → get_or text 0 0 ≡ 48 → ⊥) → IsDecimal text
+offset_spelled text n is small zeros = record { is = grind (arith, cuts.digits_decimal); small = grind arith }
 
 -- ---- an object with its members as they are written
 
@@ -133,7 +137,7 @@ named_by_text t start end some inside first = grind (arith, drop_more t start 0)
 
 pub closed_placed : (t : List ℕ) (object : ℕ) (m : PlainFronts) → IsUtf8 t → list_all is_printable t ≡ true
     → AreBegun t object m → drop m.end t ≡ codes "\"}" → is_ascii_digit (get_or t (m.at.filename + 16) 0) ≡ false
-    → ArePlacedMembers t object (record { texts = spans_to m.end m.at; offset = m.offset })
+    → ArePlacedMembers t object (spans_to m.end m.at)
 closed_placed t at m utf8 all begun closed name =
     let brace : drop (m.end + 1) t ≡ 125 ∷ [] = sym (drop-drop 1 m.end t) ∙ ap (drop 1) closed in
     let quote = byte_there t m.end 34 _ closed in
@@ -144,7 +148,5 @@ closed_placed t at m utf8 all begun closed name =
     let walked = begun_members t at all m begun quote.0 quote.1 in
     let there = walk_ends t at (m.end + 1) spans opens.0 opens.1 walked.0 walked.1 last.0 last.1
     (omega (arith, length-drop m.end t, ap length closed)) in
-    let value : offset_of (span_text t spans.offset) ≡ Some m.offset =
-    grind (arith, offset_text, digits_value-decimal, own, begun.value, begun.small) in
-    walked_placed t at spans m.offset utf8 there
-    (named_by_text t (m.at.filename + 16) m.end begun.named begun.texts.filename.inside name) value begun.value
+    walked_placed t at spans utf8 there
+    (named_by_text t (m.at.filename + 16) m.end begun.named begun.texts.filename.inside name) begun.offset

@@ -9,9 +9,10 @@ use Rattle.std.proofs.lemmas.Fmt.{decimal-digits_value}
 use Rattle.std.proofs.lemmas.List.{drop_more, drop-drop, get_or-drop, get_or-take, length-drop, length-take, take-append-drop}
 use Rattle.std.proofs.lemmas.List.Folds.{length-prefix_len}
 use Rattle.std.proofs.lemmas.List.Sums.{list_all-from_AllPass, prefix_len-le-length, prefix_len_passes}
+use Rattle.std.proofs.lemmas.Str.Parse.{digits_value_short}
 use Rattle.cdxj_places.proofs.Offsets.{own}
 use Rattle.cdxj_objects.specs.Plain.{is_neither, is_open}
-use Rattle.cdxj_objects.specs.PlainPlaces.{IsNumberAfter, IsTextAfter}
+use Rattle.cdxj_objects.specs.PlainPlaces.{IsDecimalTo, IsNumberAfter, IsTextAfter}
 use Rattle.cdxj_objects.specs.Spans.{part}
 use Rattle.cdxj_objects.proofs.PlainBytes.{weaker}
 
@@ -67,25 +68,36 @@ pub text_after : (text front : List ℕ) (at n end : ℕ) → take n (drop at te
     → end ≡ at + n + prefix_len (is_neither 34 92) (drop (at + n) text) → IsTextAfter text at front (at + n) end
 text_after text front at n end same low e = grind (arith, length-drop, prefix_len-le-length, behind, open_before)
 
-pub number_after : (text front : List ℕ) (at n count number : ℕ) → take n (drop at text) ≡ front
-    → at + n + 16 ≤ length text → count ≡ prefix_len is_ascii_digit (take 16 (drop (at + n) text)) → 0 < count
-    → count < 16 → (get_or text (at + n) 0 ≡ 48 → count ≡ 1)
-    → number ≡ digits_value 10 (part text (at + n) (at + n + count)) → number < 2 ^ 63
-    → IsNumberAfter text at front (at + n) (at + n + count) number
-number_after text front at n count number same low e some few single value small =
-    let size : (at + n + count) - (at + n) ≡ count = omega arith in
-    let digits : list_all is_ascii_digit (part text (at + n) (at + n + count)) ≡ true =
-    rw size (digits_before (drop (at + n) text) count e (omega arith)) in
-    let long : length (part text (at + n) (at + n + count)) ≡ count = grind (arith, length-take, length-drop) in
-    let first : get_or (part text (at + n) (at + n + count)) 0 0 ≡ get_or text (at + n) 0 =
+-- digits that are counted, the first of which is no leading zero
+pub decimal_to : (text : List ℕ) (start count : ℕ) → start + 16 ≤ length text
+    → count ≡ prefix_len is_ascii_digit (take 16 (drop start text)) → 0 < count → count < 16
+    → (get_or text start 0 ≡ 48 → count ≡ 1) → IsDecimalTo text start (start + count)
+decimal_to text start count low e some few single =
+    let size : (start + count) - start ≡ count = omega arith in
+    let digits : list_all is_ascii_digit (part text start (start + count)) ≡ true =
+    rw size (digits_before (drop start text) count e (omega arith)) in
+    let long : length (part text start (start + count)) ≡ count = grind (arith, length-take, length-drop) in
+    let first : get_or (part text start (start + count)) 0 0 ≡ get_or text start 0 =
     grind (arith, get_or-take, get_or-drop) in
+    let small = digits_value_short own (part text start (start + count)) 15 digits (omega (arith, long)) in
     record {
-      after = record {
-        is = behind text front at n (at + n + count) same (omega arith);
-        no_quote = digits_open (part text (at + n) (at + n + count)) digits;
-        order = omega arith;
-        inside = omega arith;
+      order = omega arith;
+      inside = omega arith;
+      digits = digits;
+      number = record {
+        is = digits_decimal (part text start (start + count)) digits (omega (arith, long)) (grind arith) (grind arith);
+        small = grind arith;
       };
-      value = grind (arith, digits_decimal);
-      small = small;
     }
+
+pub number_after : (text front : List ℕ) (at n end : ℕ) → take n (drop at text) ≡ front → IsDecimalTo text (at + n) end
+    → IsNumberAfter text at front (at + n) end
+number_after text front at n end same there = (
+  record {
+    is = behind text front at n end same (omega (arith, there.order));
+    no_quote = digits_open (part text (at + n) end) there.digits;
+    order = omega (arith, there.order);
+    inside = there.inside;
+  },
+  there.number,
+)

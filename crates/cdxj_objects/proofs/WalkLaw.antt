@@ -36,12 +36,12 @@ use Rattle.std.proofs.Common.{◌||◌}
 use Rattle.std.specs.Char.{is_ascii_digit}
 use Rattle.std.specs.Str.Parse.{digits_value}
 use Rattle.std.proofs.lemmas.List.{get_or-drop, get_or-take}
-use Rattle.cdxj_objects.proofs.PlainCuts.{digits_before, digits_decimal}
 use Rattle.json.specs.Lex.{Class, class, operator_lexeme}
 use Rattle.std.proofs.Common.{◌+◌, take, drop, get_or, length-take, length-drop, drop-drop}
 use Rattle.std.proofs.lemmas.List.{drop_all, drop_more, take-append-drop}
 use Rattle.std.specs.List.{prefix_len}
 use Rattle.cdxj_objects.specs.Plain.{is_neither, is_printable}
+use Rattle.cdxj_objects.specs.PlainPlaces.{IsDecimalTo}
 use Rattle.cdxj_objects.specs.Spans.{part, span_text}
 use Rattle.cdxj_objects.proofs.PlainCuts.{front_passes}
 
@@ -133,40 +133,36 @@ digit_in d at count i all long within =
     subst (λ b. is_ascii_digit b ≡ true) same
     (AllPass-from_list_all is_ascii_digit (take count (drop at d)) all i 0 (omega (arith, long, within)))
 
-pub number_to : (d : List ℕ) (at count n : ℕ) → at + 16 ≤ length d
-    → count ≡ prefix_len is_ascii_digit (take 16 (drop at d)) → 0 < count → count < 16 → (get_or d at 0 ≡ 48 → count ≡ 1)
-    → n ≡ digits_value 10 (take count (drop at d)) → n < 2 ^ 63 → ends_word (drop (at + count) d) ≡ true
-    → IsNumberTo d at (at + count) n
-number_to d at count n low e some few single value small ends =
-    let size : (at + count) - at ≡ count = omega arith in
-    let digits : list_all is_ascii_digit (take count (drop at d)) ≡ true = digits_before (drop at d) count e (omega arith) in
-    let long : length (take count (drop at d)) ≡ count = grind (arith, length-take, length-drop) in
-    let first : get_or (take count (drop at d)) 0 0 ≡ get_or d at 0 = grind (arith, get_or-take, get_or-drop) in
-    let is : take count (drop at d) ≡ decimal n = grind (arith, digits_decimal) in
+pub number_to : (d : List ℕ) (at end : ℕ) → IsDecimalTo d at end → ends_word (drop end d) ≡ true → IsNumberTo d at end
+number_to d at end there ends =
+    let digits = part d at end in
+    let n = digits_value 10 digits in
+    let count = end - at in
+    let long : length digits ≡ count = grind (arith, length-take, length-drop, there.order, there.inside) in
+    let up : at + count ≡ end = omega (arith, there.order) in
     let first_digit : is_ascii_digit (get_or d at 0) ≡ true =
-    subst (λ i. is_ascii_digit (get_or d i 0) ≡ true) (omega arith) (digit_in d at count 0 digits long some) in
+    subst (λ i. is_ascii_digit (get_or d i 0) ≡ true) (omega arith) (digit_in d at count 0 there.digits long (omega (arith, there.order))) in
     let last_digit : is_ascii_digit (get_or d (at + (count - 1)) 0) ≡ true =
-    digit_in d at count (count - 1) digits long (omega (arith, some)) in
-    let cut : drop at d ≡ decimal n ++ drop (at + count) d =
-    sym (take-append-drop count (drop at d)) ∙ ap (λ l. l ++ drop count (drop at d)) is
+    digit_in d at count (count - 1) there.digits long (omega (arith, there.order)) in
+    let cut : drop at d ≡ decimal n ++ drop end d =
+    sym (take-append-drop count (drop at d)) ∙ ap (λ l. l ++ drop count (drop at d)) there.number.is
     ∙ ap (λ l. decimal n ++ l) (grind (arith, drop-drop)) in
     record {
-      order = omega arith;
-      inside = omega arith;
-      value = rw size is;
-      small = small;
+      order = there.order;
+      inside = there.inside;
+      number = there.number;
       stands = record {
-        plain = rw size (digits_plain (take count (drop at d)) digits);
-        order = omega arith;
-        inside = omega (arith, low, few);
+        plain = digits_plain digits there.digits;
+        order = omega (arith, there.order);
+        inside = there.inside;
         cut = λ utf8. record {
-          order = omega arith;
-          start_is_cut = IsCharBoundary-before_ascii d at (omega (arith, low)) (digit_ascii (get_or d at 0) first_digit);
-          end_is_cut = subst (IsCharBoundary d) (omega (arith, some)) (IsCharBoundary-after_ascii d (at + (count - 1)) utf8
-              (omega (arith, low, few, some)) (digit_ascii (get_or d (at + (count - 1)) 0) last_digit));
+          order = omega (arith, there.order);
+          start_is_cut = IsCharBoundary-before_ascii d at (omega (arith, there.order, there.inside)) (digit_ascii (get_or d at 0) first_digit);
+          end_is_cut = subst (IsCharBoundary d) (omega (arith, there.order)) (IsCharBoundary-after_ascii d (at + (count - 1)) utf8
+              (omega (arith, there.order, there.inside)) (digit_ascii (get_or d (at + (count - 1)) 0) last_digit));
         };
       };
-      is = ap (λ l. lex between l) cut ∙ lex_whole n (drop (at + count) d) (omega arith) ends;
+      is = ap (λ l. lex between l) cut ∙ lex_whole n (drop end d) (omega (arith, there.number.small)) ends;
     }
 
 -- ---- members

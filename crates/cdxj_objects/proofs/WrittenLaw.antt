@@ -56,7 +56,7 @@ front_walked t object p start end name spans all plain_name walked after within 
     let was = walked (ap begins_colon separated) in
     let one = next_member (drop (object + 1) t) (drop (p + 1) t) rest u name (text s) was.found (λ _. was.read)
     separated (own_member name s u plain_name plain_s) ends in
-    let v : Stands = record { start = start; end = end; after = end + 1; is_text = true; number = 0 } in
+    let v : Stands = record { start = start; end = end; after = end + 1; is_text = true } in
     record {
       found = put name one.0 was.found;
       read = one.2;

@@ -1,5 +1,6 @@
 -- What the value of a member of a line's object says.
-use Rattle.std.specs.Prelude.{ℕ, ◌^◌, ◌==◌, nat_lt, List, length, decimal, Option, Some, None, if◌then◌else◌}
+use Rattle.std.specs.Prelude.{◌≡◌, ℕ, ◌^◌, ◌<◌, ◌==◌, nat_lt, List, length, decimal, Option, Some, None, if◌then◌else◌}
+use Rattle.std.specs.Str.Parse.{digits_value}
 use Rattle.serde_json.specs.Data.{Num, unsigned, negative, float, Data, null, boolean, number, string, array, object}
 use Rattle.cdxj_places.specs.Places.{offset_of}
 use Rattle.cdxj_objects.specs.Texts.{missing, or_missing}
@@ -43,3 +44,8 @@ offset_value (Some (number n)) = offset_number n
 offset_value (Some (string s)) = offset_of s
 offset_value (Some (array ds)) = None
 offset_value (Some (object ms)) = None
+
+-- a number below 2^63, as it is written in decimal
+pub record IsDecimal (s : List ℕ) : Type 0 where
+  pub is : s ≡ decimal (digits_value 10 s)
+  pub small : digits_value 10 s < 2 ^ 63

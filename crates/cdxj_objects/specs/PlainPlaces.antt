@@ -1,10 +1,15 @@
 -- Where the texts of a plain object's members stand.
-use Rattle.std.specs.Prelude.{◌≡◌, ℕ, ◌+◌, ◌-◌, ◌<◌, ◌≤◌, ◌^◌, true, List, ◌++◌, drop, length, decimal}
+use Rattle.std.specs.Prelude.{◌≡◌, ℕ, ◌+◌, ◌-◌, ◌<◌, ◌≤◌, true, List, ◌++◌, drop, length}
+use Rattle.std.specs.Char.{is_ascii_digit}
 use Rattle.std.specs.List.{list_all}
 use Rattle.cdxj_objects.specs.declared.members.Members.{Members}
+use Rattle.cdxj_objects.specs.declared.plain.BegunMembers.{BegunMembers}
+use Rattle.cdxj_objects.specs.declared.plain.BegunMembers.TheVariants.{All, Two, Few}
+use Rattle.cdxj_objects.specs.declared.plain.FirstTwo.{FirstTwo}
 use Rattle.cdxj_objects.specs.declared.plain.PlainFronts.{PlainFronts}
 use Rattle.cdxj_objects.specs.declared.span.Span.{Span}
-use Rattle.cdxj_objects.specs.ObjectMembers.{AllMembers, map_members, next_members, zip_members}
+use Rattle.cdxj_objects.specs.MemberValues.{IsDecimal}
+use Rattle.cdxj_objects.specs.ObjectMembers.{AllMembers, all_members, map_members, next_members, zip_members}
 use Rattle.cdxj_objects.specs.Plain.{fronts, is_open}
 use Rattle.cdxj_objects.specs.Spans.{IsPartBetween, part}
 use Rattle.cdxj_objects.specs.Texts.{TextsValue}
@@ -48,12 +53,16 @@ pub record IsTextAfter (text : List ℕ) (at : ℕ) (front : List ℕ) (start en
   pub order : start ≤ end
   pub inside : end ≤ length text
 
--- the same, where the text is a number in decimal
-pub record IsNumberAfter (text : List ℕ) (at : ℕ) (front : List ℕ) (start end number : ℕ) : Type 0
-  where
-    pub after : IsTextAfter text at front start end
-    pub value : part text start end ≡ decimal number
-    pub small : number < 2 ^ 63
+-- a number in decimal stands between these places
+pub record IsDecimalTo (text : List ℕ) (start end : ℕ) : Type 0 where
+  pub order : start < end
+  pub inside : end ≤ length text
+  pub digits : list_all is_ascii_digit (part text start end) ≡ true
+  pub number : IsDecimal (part text start end)
+
+-- a number in decimal stands between these places, behind a front
+abbrev pub IsNumberAfter : List ℕ → ℕ → List ℕ → ℕ → ℕ → Type 0
+IsNumberAfter text at front start end = IsTextAfter text at front start end × IsDecimal (part text start end)
 
 -- a text stands behind each front, up to the next
 abbrev pub IsPlacedAfter : List ℕ → (ℕ × List ℕ) × ℕ → Type 0
@@ -63,10 +72,27 @@ abbrev pub AreTextsAfter : List ℕ → Members ℕ → ℕ → Type 0
 AreTextsAfter text at end = AllMembers (IsPlacedAfter text)
     (zip_members (λ m next. (m, next)) (zip_members (λ place front. (place, front)) at fronts) (next_members at end))
 
--- an object begins with the seven members, has a file name and this offset
+-- an object begins with the seven members, has a file name and an offset
 pub record AreBegun (text : List ℕ) (object : ℕ) (m : PlainFronts) : Type 0 where
   pub begins : m.at.url ≡ object
   pub texts : AreTextsAfter text m.at m.end
-  pub value : part text (m.at.offset + length fronts.offset) m.at.filename ≡ decimal m.offset
-  pub small : m.offset < 2 ^ 63
+  pub offset : IsDecimal (part text (m.at.offset + length fronts.offset) m.at.filename)
   pub named : m.at.filename + length fronts.filename < m.end
+
+-- an object begins with the first two members
+pub record AreFirstTwo (text : List ℕ) (object : ℕ) (m : FirstTwo) : Type 0 where
+  pub url : IsTextAfter text object fronts.url (object + length fronts.url) m.url_end
+  pub mime : IsTextAfter text m.url_end fronts.mime (m.url_end + length fronts.mime) m.mime_end
+
+-- where their texts stand, if the other members stand there
+abbrev pub spans_of_two : ℕ → FirstTwo → Span → Members Span
+spans_of_two object m other = record (all_members other) {
+  url = record { start = object + length fronts.url; end = m.url_end };
+  mime = record { start = m.url_end + length fronts.mime; end = m.mime_end };
+}
+
+-- an object begins with these members
+abbrev pub BeginsWithMembers : List ℕ → ℕ → BegunMembers → Type 0
+BeginsWithMembers text object (All m) = AreBegun text object m
+BeginsWithMembers text object (Two m) = AreFirstTwo text object m
+BeginsWithMembers text object Few = Unit {0}

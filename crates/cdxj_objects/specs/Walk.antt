@@ -4,6 +4,7 @@ use Rattle.json.specs.Token.{Token}
 use Rattle.json.specs.Text.{content, plain}
 use Rattle.json.specs.Lex.{lex, between, in_string, token, colon, operator_lexeme}
 use Rattle.serde_json.specs.Data.{Data, null, boolean, string, number, unsigned, negative, float, array, object}
+use Rattle.cdxj_objects.specs.declared.plain.FirstTwo.{FirstTwo}
 use Rattle.cdxj_objects.specs.declared.plain.PlainFronts.{PlainFronts}
 use Rattle.cdxj_objects.specs.declared.walk.FirstMembers.{FirstMembers}
 use Rattle.cdxj_objects.specs.declared.walk.Name.{Name}
@@ -12,14 +13,16 @@ use Rattle.cdxj_objects.specs.declared.tokens.Stands.{Stands}
 use Rattle.cdxj_objects.specs.declared.span.Span.{Span}
 use Rattle.cdxj_objects.specs.declared.members.Members.{Members}
 use Rattle.cdxj_objects.specs.FoundMembers.{FoundValue, members_in, raw_text}
+use Rattle.cdxj_objects.specs.MemberValues.{IsDecimal}
 use Rattle.cdxj_objects.specs.ObjectMembers.{AllMembers, all_members, map_members, names, with_named}
 use Rattle.std.specs.Prelude.{Option, None, Some}
 use Rattle.cdxj_objects.specs.declared.walk.Passed.{Passed}
 use Rattle.std.specs.Char.{is_ascii_hexdigit}
 use Rattle.std.specs.List.{list_all}
 use Rattle.std.specs.Str.{IsUtf8}
+use Rattle.std.specs.Str.Parse.{digits_value}
 use Rattle.json.specs.Run.{is_plain}
-use Rattle.cdxj_objects.specs.PlainPlaces.{AreBegun, spans_to}
+use Rattle.cdxj_objects.specs.PlainPlaces.{AreBegun, AreFirstTwo, spans_of_two, spans_to}
 use Rattle.cdxj_objects.specs.Spans.{IsPartBetween, part, span_text, span_texts}
 
 -- a backslash and this byte stand for a byte
@@ -65,7 +68,8 @@ Fitting (Some (object ms)) = Unit {0}
 
 -- the value that stands there
 abbrev pub value_of : List ℕ → Stands → Value
-value_of t v = if v.is_text then text (part t v.start v.end) else whole v.number
+value_of t v =
+    if v.is_text then text (part t v.start v.end) else whole (digits_value 10 (part t v.start v.end))
 
 -- a text without a quote, a backslash and a control stands between these places
 pub record IsPlainPart (t : List ℕ) (start end : ℕ) : Type 0 where
@@ -137,13 +141,13 @@ pub record IsBehind (text : List ℕ) (at byte to : ℕ) : Type 0 where
   pub is : lex between (drop at text) ≡ operator_lexeme byte ∷ lex between (drop to text)
 
 -- a whole number stands there
-pub record IsNumberTo (text : List ℕ) (at end number : ℕ) : Type 0 where
+pub record IsNumberTo (text : List ℕ) (at end : ℕ) : Type 0 where
   pub order : at < end
   pub inside : end ≤ length text
-  pub value : part text at end ≡ decimal number
-  pub small : number < 2 ^ 63
+  pub number : IsDecimal (part text at end)
   pub stands : IsPlainPart text at end
-  pub is : Lexes (drop at text) (Token.number (decimal number)) (drop end text)
+  pub is : Lexes (drop at text) (Token.number (decimal (digits_value 10 (part text at end))))
+      (drop end text)
 
 -- a text stands there between quotes
 pub record IsTextTo (text : List ℕ) (at end : ℕ) : Type 0 where
@@ -190,10 +194,13 @@ pub record IsAnyTurn (t : List ℕ) (at : ℕ) (old new : Members Span) (after :
   pub turn : IsTurn t begin old new end
   pub behind : IsBlankTo t end after
 
--- all seven members stand there as they are written, up to a place, or one member in any spelling
+-- all seven members or the first two stand there as they are written, up to a place, or one member in
+-- any spelling
 abbrev pub AreFirst : List ℕ → ℕ → FirstMembers → Type 0
 AreFirst t at first =
     ((m : PlainFronts) × AreBegun t at m × IsBehindQuote t m.end first.at × (first.spans ≡ spans_to m.end m.at))
+    ⊎ ((m : FirstTwo) × AreFirstTwo t at m × IsBehindQuote t m.mime_end first.at
+    × (first.spans ≡ spans_of_two at m (record { start = 0; end = 0 })))
     ⊎ IsAnyTurn t at (all_members (record { start = 0; end = 0 })) first.spans first.at
 
 abbrev pub name_of : Name → List ℕ

@@ -14,7 +14,7 @@ pub struct Span {
 
 /// Returns the text that stands there.
 #[inline(always)]
-fn text_of(text: &str, span: Span) -> &str
+pub(crate) fn text_of(text: &str, span: Span) -> &str
     requires { IsSpan text.now span }
     ensures { result.now ≡ span_text text.now span }
 {

@@ -8,7 +8,7 @@ ghost use Rattle.cdxj_objects.specs.Walk.{IsBehind, IsBlankTo, IsNumberTo, IsTex
 ghost use Rattle.cdxj_objects.specs.Walk.{IsEscapeTo, IsEscapedTo, is_basic_unit, is_short_escape};
 
 use crate::lanes::place_of_either;
-use crate::plain::{count_digits, number_of};
+use crate::plain::decimal_to;
 
 /// Returns `true` if this byte stands at a place.
 #[inline(always)]
@@ -153,20 +153,18 @@ fn ends_number(text: &[u8], end: usize) -> bool
     byte_is(text, end, b',') || byte_is(text, end, b'}') || byte_is(text, end, b' ')
 }
 
-/// Returns the end of the digits that stand at a place, and their number.
+/// Returns the end of the whole number that stands at a place.
 #[inline(always)]
 #[tactic(auto, using(crate::proofs::WalkLaw::number_to))]
-fn number_to(text: &[u8], at: usize) -> Option<(usize, u64)>
-    ensures { IfSome result (λ p. IsNumberTo text.now at p.0 p.1) }
+fn number_to(text: &[u8], at: usize) -> Option<usize>
+    ensures { IfSome result (IsNumberTo text.now at) }
 {
-    let count = count_digits(text, at)?;
-    if count > 1 && text[at] == b'0' {
-        return None;
+    let end = decimal_to(text, at)?;
+    if ends_number(text, end) {
+        Some(end)
+    } else {
+        None
     }
-    if !ends_number(text, at + count) {
-        return None;
-    }
-    Some((at + count, number_of(&text[at..at + count])))
 }
 
 /// A value that was read: where its text stands, and the place behind it.
@@ -176,7 +174,6 @@ pub(crate) struct Stands {
     pub end: usize,
     pub after: usize,
     pub is_text: bool,
-    pub number: u64,
 }
 
 /// Reads the text or the whole number that stands at a place.
@@ -191,15 +188,13 @@ pub(crate) fn value_at(text: &[u8], at: usize) -> Option<Stands>
             end,
             after: end + 1,
             is_text: true,
-            number: 0,
         });
     }
-    let (end, number) = number_to(text, at)?;
+    let end = number_to(text, at)?;
     Some(Stands {
         start: at,
         end,
         after: end,
         is_text: false,
-        number,
     })
 }

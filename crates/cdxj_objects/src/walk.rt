@@ -3,13 +3,13 @@ ghost use Rattle.std.specs.Prelude.{◌≡◌, ◌<◌, ◌≤◌, true, length,
 ghost use Rattle.std.specs.List.{list_all};
 ghost use Rattle.cdxj_objects.specs.ObjectMembers.{with_named};
 ghost use Rattle.cdxj_objects.specs.Plain.{is_printable};
-ghost use Rattle.cdxj_objects.specs.PlainPlaces.{AreBegun};
+ghost use Rattle.cdxj_objects.specs.PlainPlaces.{BeginsWithMembers};
 ghost use Rattle.cdxj_objects.specs.Walk.{AreFirst, AreWalked, IsAnyTurn, IsBehindQuote, IsNameTo};
 ghost use Rattle.cdxj_objects.specs.Walk.{IsOther, IsPassed, IsTurn, name_of, quoted_name, span_of};
 
 use crate::lanes::{Front, has_front, holds_lanes};
 use crate::members::{Members, QUOTED};
-use crate::plain::{PlainFronts, texts_behind};
+use crate::plain::{BegunMembers, texts_behind, texts_of_two};
 use crate::span::Span;
 use crate::tokens::{Stands, behind, byte_is, escaped_to, skip_blanks, text_to, value_at};
 
@@ -239,21 +239,26 @@ pub(crate) struct FirstMembers {
     pub at: usize,
 }
 
-/// Reads the first member of an object, in any spelling, or all seven of one that begins so.
+/// Reads the first member of an object, in any spelling, or those that it is known to begin with.
 #[inline(always)]
-fn first_members(text: &[u8], object: usize, begun: Option<PlainFronts>) -> Option<FirstMembers>
+fn first_members(text: &[u8], object: usize, begun: BegunMembers) -> Option<FirstMembers>
     requires printable { list_all is_printable text.now ≡ true }
     requires inside { object < length text.now }
-    requires begun { IfSome begun (AreBegun text.now object) }
+    requires begun { BeginsWithMembers text.now object begun }
     ensures { IfSome result (AreFirst text.now object) }
 {
     match begun {
-        Some(fronts) => {
+        BegunMembers::All(fronts) => {
             let at = behind_quote(text, fronts.end)?;
             let spans = texts_behind(&fronts.at, fronts.end);
             Some(FirstMembers { spans, at })
         }
-        None => {
+        BegunMembers::Two(two) => {
+            let at = behind_quote(text, two.mime_end)?;
+            let spans = texts_of_two(object, two, NOWHERE);
+            Some(FirstMembers { spans, at })
+        }
+        BegunMembers::Few => {
             let mut spans = Members::all(NOWHERE);
             let at = any_turn(text, object, &mut spans)?;
             Some(FirstMembers { spans, at })
@@ -265,13 +270,9 @@ fn first_members(text: &[u8], object: usize, begun: Option<PlainFronts>) -> Opti
 /// with the text, and its values are texts and whole numbers. It may decline any object.
 #[tactic(auto, using(crate::proofs::WrittenLaw::any_next))]
 #[inline(always)]
-pub(crate) fn members_at(
-    text: &[u8],
-    object: usize,
-    begun: Option<PlainFronts>,
-) -> Option<Members<Span>>
+pub(crate) fn members_at(text: &[u8], object: usize, begun: BegunMembers) -> Option<Members<Span>>
     requires printable { list_all is_printable text.now ≡ true }
-    requires begun { IfSome begun (AreBegun text.now object) }
+    requires begun { BeginsWithMembers text.now object begun }
     ensures { IfSome result (AreWalked text.now object) }
 {
     if !byte_is(text, object, b'{') {

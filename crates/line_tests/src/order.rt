@@ -1,8 +1,10 @@
 //! The order of entries and of lines.
 use crate::writing::{HOME, Members, entry};
-use cdxj_core::{Entry, Line, LineFault, LineRef, in_order};
+use cdxj_core::{Entry, Line, LineFault, LineRef, OwnedPlace, PlaceFault, in_order};
 use cdxj_places::rows_in_order;
 use std::alloc::{AllocError, Global};
+use std::cmp::Ordering;
+use std::test::Fail;
 
 fn entries(alloc: Global, rows: &[Members]) -> Result<Vec<Entry>, AllocError> {
     let mut entries = Vec::new(alloc);
@@ -133,5 +135,30 @@ fn lines_rise_by_place(rt: HostRuntime) -> Result<(), LineFault> {
     let lines = [&first.values(), &second.values(), &third.values()];
     let order = in_order(rt.alloc(), &lines)?;
     assert!(rt; are_offsets(&order, &[5, 99, 1000]));
+    Ok(())
+}
+
+/// Resume keys, and how the place of `OFFSET_1000` is ordered to theirs.
+const OTHER_PLACES: &[(&str, Ordering)] = &[
+    ("k+20160101000000+a.warc+1000", Ordering::Equal),
+    ("k+20160101000000+a.warc+999", Ordering::Greater),
+    ("k+20160101000000+a.warc+9999", Ordering::Less),
+    ("k+20160101000000+a.war+9999", Ordering::Greater),
+    ("k+20160101000001+A+1000", Ordering::Less),
+    ("j+20170101000000+a.warc+1000", Ordering::Greater),
+];
+
+fn is_ordered(alloc: Global, line: &Line, key: &str, order: Ordering) -> Result<bool, PlaceFault> {
+    let other = OwnedPlace::read(alloc, key)?;
+    let place = other.place();
+    Ok(line.compare_to(&place) == order && line.values().compare_to(&place) == order)
+}
+
+#[test]
+fn a_line_is_compared_with_a_place(rt: HostRuntime) -> Result<(), Fail> {
+    let line = Line::read(rt.alloc(), OFFSET_1000)?;
+    for (key, order) in OTHER_PLACES.iter() {
+        assert!(rt; is_ordered(rt.alloc(), &line, key, *order)?, "{key}");
+    }
     Ok(())
 }

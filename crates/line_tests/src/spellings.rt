@@ -46,6 +46,26 @@ const ENTRIES: &[(&str, &str, &str)] = &[
         "-|-|123456789012345|-|1234567890123456|0|f",
     ),
     (
+        "numbers behind two members as they are written",
+        "k 20160101000000 {\"url\": \"u\", \"mime\": \"m\", \"status\": 200, \"digest\": \"D\", \"length\": 9, \"offset\": 7, \"filename\": \"f\"}\n",
+        "u|m|200|D|9|7|f",
+    ),
+    (
+        "the first two once more behind the others",
+        "k 20160101000000 {\"url\": \"a\", \"mime\": \"b\", \"offset\": \"7\", \"filename\": \"f\", \"mime\": \"m\", \"url\": \"u\"}\n",
+        "u|m|-|-|-|7|f",
+    ),
+    (
+        "an offset of 19 digits as it is written",
+        "k 20160101000000 {\"url\": \"u\", \"mime\": \"m\", \"status\": \"200\", \"digest\": \"D\", \"length\": \"9\", \"offset\": \"9223372036854775807\", \"filename\": \"f\"}\n",
+        "u|m|200|D|9|9223372036854775807|f",
+    ),
+    (
+        "an offset at the end",
+        "k 20160101000000 {\"url\": \"u\", \"mime\": \"m\", \"filename\": \"f\", \"offset\": \"7\"}",
+        "u|m|-|-|-|7|f",
+    ),
+    (
         "a number too large for 64 bits",
         "k 20160101000000 {\"length\":18446744073709551616,\"offset\":7,\"filename\":\"f\"}\n",
         "-|-|-|-|-|7|f",
@@ -160,6 +180,10 @@ const REFUSALS: &[(&str, &str)] = &[
     (
         "an offset of 2^63",
         "k 20160101000000 {\"offset\":9223372036854775808,\"filename\":\"f\"}\n",
+    ),
+    (
+        "an offset of 2^63 as it is written",
+        "k 20160101000000 {\"url\": \"u\", \"mime\": \"m\", \"status\": \"200\", \"digest\": \"D\", \"length\": \"9\", \"offset\": \"9223372036854775808\", \"filename\": \"f\"}\n",
     ),
     (
         "an offset with a point",

@@ -34,6 +34,12 @@ IsFeedFaultAt ls at feed.Read = ⊤
 IsFeedFaultAt ls at (feed.BadLine offset) = (offset ≡ at) × IsBadFirst ls
 IsFeedFaultAt ls at (feed.OutOfOrder offset) = ⊥
 
+-- a fault of the reading of a line that begins at this offset, of any bytes
+abbrev pub IsOfLineAt : ℕ → FeedFault → Type 0
+IsOfLineAt at (feed.BadLine offset) = offset ≡ at
+IsOfLineAt at (feed.OutOfOrder offset) = ⊥
+IsOfLineAt at other = ⊤
+
 -- a line that the fault names is such a line of the text
 abbrev pub NamesLine : List ℕ → FeedFault → Type 0
 NamesLine text feed.Memory = ⊤

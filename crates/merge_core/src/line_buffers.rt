@@ -11,8 +11,8 @@ ghost use Rattle.source_core.specs.IndexLines.{first_length};
 ghost use Rattle.source_core.specs.Reads.{StandsIn};
 ghost use Rattle.merge_core.specs.MergeInputs.{Moved, stays};
 ghost use Rattle.std.specs.List.{filter};
-ghost use Rattle.merge_core.specs.LineFaults.{GivesEntry, IsFeedFaultAt, line_fault};
-ghost use Rattle.merge_core.specs.NextLine.{IsNextLine, MovesOn};
+ghost use Rattle.merge_core.specs.LineFaults.{GivesEntry, IsFeedFaultAt, IsOfLineAt, line_fault};
+ghost use Rattle.merge_core.specs.NextLine.{IsLineRead, IsNextLine, MovesOn};
 ghost use Rattle.merge_core.specs.BoxedLines.{boxed_option, boxed_line};
 
 use crate::fault::FeedFault;
@@ -128,6 +128,8 @@ impl LineBuffers {
         ensures stands { OnOk result (StandsIn S.Source source.new cursor.new) }
         ensures moves { IfOk result (λ o.
             MovesOn (S.extent source.old) cursor.old cursor.new (boxed_line o)) }
+        ensures line { IfOk result (λ o.
+            IsLineRead (S.text source.old) cursor.old.at cursor.new.at (boxed_line o)) }
         ensures next { OverText (S.text source.old) (λ t.
             IfOk result (λ o. IsNextLine t cursor.old.at cursor.new.at (boxed_line o))) }
         ensures most { OverText (S.text source.old) (λ t.
@@ -135,6 +137,7 @@ impl LineBuffers {
         ensures ahead { length cursor.new.ahead ≤ 8192 }
         ensures fault { OverText (S.text source.old) (λ t.
             IfErr result (IsFeedFaultAt (lines (drop cursor.old.at t)) cursor.old.at)) }
+        ensures names { IfErr result (IsOfLineAt cursor.old.at) }
     {
         let begin = cursor.at();
         if let Some((bytes, kind)) = cursor.held_line() {

@@ -9,7 +9,5 @@ pub returns : goal.returns
 returns c =
     let texts = c.texts_at-texts.ensures in
     let name = ap (λ t. t.filename) texts in
-    let offset = ap (λ t. t.offset) texts in
-    walked_placed c.args.text.now c.args.object c.in_ok-spans.spans c.in_ok-offset.offset c.utf8.text
-    (rw c.as_bytes.ensures.value at c.in_ok-spans.ensures) (grind (arith, name)) (grind (arith, offset))
-    (grind (arith, offset))
+    walked_placed c.args.text.now c.args.object c.in_ok-spans.spans c.utf8.text
+    (rw c.as_bytes.ensures.value at c.in_ok-spans.ensures) (grind (arith, name)) (grind arith)

@@ -6,8 +6,8 @@ use Rattle.cdxj_core.proofs.line_ref.LineRef.of_parts.Goals as goal
 
 pub invariant_of-result : goal.invariant_of-result
 invariant_of-result c =
-    placed_kept LINE_LIMIT c.args.text.now c.args.pair c.args.members c.utf8.text c.requires.printable
-    c.requires.short c.requires.pair c.requires.members
+    placed_kept LINE_LIMIT c.args.text.now c.args.pair c.args.texts c.utf8.text c.requires.printable
+    c.requires.short c.requires.pair c.requires.texts
 
 pub returns : goal.returns
 returns c = grind (arith, take-length, invariant_of-result)
