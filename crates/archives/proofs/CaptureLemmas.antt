@@ -11,19 +11,26 @@ use Rattle.warc_core.specs.Walk.{record_at}
 use Rattle.cdxj_core.specs.Entries.{line_text}
 use Rattle.capture_core.specs.Capture.{plain_place}
 use Rattle.capture_core.specs.CaptureAnswer.{Captures}
+use Rattle.capture_core.specs.Fault.{fault_offset}
 use Rattle.capture_core.specs.Indexed.{url_of}
 use Rattle.capture_core.specs.RecordReading.{IsCaptureFaultAt, reading_of}
 use Rattle.capture_core.specs.declared.fault.CaptureFault.TheVariants.{LineTooLong, KeyTooLong}
 use Rattle.archives.specs.Captures.{IsCaptureFrom, IsNext, MayBeRefused}
 use Rattle.archives.specs.Form.{plain, plain_record}
 use Rattle.archives.specs.Plain.{no_memory}
-use Rattle.archives.proofs.PlainLemmas.{plain_possible, plain_reads}
+use Rattle.archives.proofs.PlainLemmas.{plain_follows, plain_possible, plain_reads, some_of}
 
 -- what stands behind a head
 pub behind_head : (limit start : ℕ) (h : HeadView) (z y : List ℕ) → next_at limit start z ≡ Ok (Some h, y)
     → drop (length h.raw) z ≡ y
 behind_head limit start h z y r = ap (drop (length h.raw)) (next-spelled limit start z y h r).0
     ∙ drop-append_seam h.raw y
+
+-- where the record at fault begins
+pub capture_fault_at : (start : ℕ) (fault : CaptureFault) → IsCaptureFaultAt start fault → fault_offset fault ≡ start
+capture_fault_at start (Archive f) at = at
+capture_fault_at start (LineTooLong o) at = at
+capture_fault_at start (KeyTooLong o) at = at
 
 -- why the record that begins these bytes has no capture, in a plain archive
 abbrev pub WhyRefused : (Kind → Bool) → Limits → ℕ → List ℕ → ℕ → List ℕ → CaptureFault → Type 0
@@ -87,7 +94,9 @@ module _ (types : Kind → Bool) (limits : Limits) (limit : ℕ) (name : List �
 -- there was no memory for a reader
 pub memory_refuses : (types : Kind → Bool) (limits : Limits) (name : List ℕ) (f : Fault) → f ≡ no_memory
     → (before : Option (List ℕ))
-    → IfSome before (λ bytes. MayBeRefused types limits (plain HEAD_LIMIT) name f.offset bytes (Archive f))
-memory_refuses types limits name f e None = tt
-memory_refuses types limits name f e (Some bytes) =
-    plain_possible HEAD_LIMIT f.offset bytes f refl (inl (ap (λ f. f.cause) e))
+    → (plain HEAD_LIMIT).Follows f.offset f.offset
+    × IfSome before (λ bytes. MayBeRefused types limits (plain HEAD_LIMIT) name f.offset bytes (Archive f))
+memory_refuses types limits name f e before = (
+  plain_follows HEAD_LIMIT f.offset f.offset refl,
+  some_of before (λ bytes. plain_possible HEAD_LIMIT f.offset bytes f refl (inl (ap (λ f. f.cause) e))),
+)

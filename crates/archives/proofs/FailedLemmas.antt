@@ -27,5 +27,6 @@ fails_here packing offset before after = record {
 }
 
 pub refuses_here : (packing : Packing) (offset : ℕ) (before : Option (List ℕ))
-    → IfSome before (λ bytes. IsPossibleFault (form_of packing) offset bytes (failed_at offset))
-refuses_here packing offset before = some_of before (may_fail packing offset)
+    → (form_of packing).Follows offset offset
+    × IfSome before (λ bytes. IsPossibleFault (form_of packing) offset bytes (failed_at offset))
+refuses_here packing offset before = ((form_lawful packing).here offset, some_of before (may_fail packing offset))

@@ -11,7 +11,8 @@ use Rattle.cdxj_core.specs.declared.limit.TheConstants.{LINE_LIMIT}
 use Rattle.capture_core.specs.declared.fault.CaptureFault.TheVariants.{LineTooLong, KeyTooLong}
 use Rattle.capture_core.specs.declared.place.Place.{Place}
 use Rattle.capture_core.specs.Capture.{ArePartsUnder, IsCaptureUnder, PartsValue, entry_from}
-use Rattle.capture_core.specs.CaptureAnswer.{GivesParts, usual_limits}
+use Rattle.capture_core.specs.CaptureAnswer.{GivesParts, HasUrl, usual_limits}
+use Rattle.capture_core.specs.Fault.{fault_offset}
 use Rattle.capture_core.specs.Indexed.{url_of}
 use Rattle.capture_core.specs.RecordReading.{reading_after}
 use Rattle.archives.specs.Captures.{IsCaptureFrom, MayBeRefused}
@@ -48,6 +49,19 @@ under_url : (url : Option (List ℕ)) (limit few : ℕ) (place at : Place) (h : 
 under_url None limit few place at h block name None s c = absurd cc
 under_url None limit few place at h block name (Some p) s c = absurd cc
 under_url (Some url) limit few place at h block name parts s c = refl
+
+-- the entry of these parts has their URL
+pub line_url : (place : Place) (name : List ℕ) (parts : Option PartsValue) (url : Option (List ℕ))
+    → option_map (λ p. p.url) parts ≡ url → HasUrl url (option_map (entry_from place name) parts)
+line_url place name None url e = rw (← e) refl
+line_url place name (Some p) url e = rw (← e) refl
+
+-- where a record stands that has no line
+pub line_at : (limit : ℕ) (place : Place) (name : List ℕ) (parts : Option PartsValue) (fault : CaptureFault)
+    → AnswersLine limit place name parts (Err fault) → fault_offset fault ≡ place.offset
+line_at limit place name parts (Archive f) a = a.0
+line_at limit place name parts (LineTooLong o) a = a.0
+line_at limit place name parts (KeyTooLong o) a = a.0
 
 module _ (types : Kind → Bool) (name : List ℕ) where
   -- this is the capture of a record

@@ -13,6 +13,7 @@ use Rattle.archives.specs.Captures.{MayBeRefused}
 use Rattle.capture_core.specs.CaptureAnswer.{usual_limits}
 use Rattle.archives.proofs.Words.{Archive, Bool, Kind}
 use Rattle.archives.proofs.PackedLemmas.{packed_follows, packed_stand}
+use Rattle.archives.proofs.PlainLemmas.{some_of}
 use Rattle.archives.proofs.WalkingLemmas.{fault_later}
 
 -- what comes at an offset comes at an earlier one, with members without text between them
@@ -100,6 +101,6 @@ no_memory_fails before after = record {
 }
 
 pub no_memory_refuses : (types : Kind → Bool) (name : List ℕ) (before : Option (List ℕ))
-    → IfSome before (λ bytes. MayBeRefused types usual_limits (packed HEAD_LIMIT) name 0 bytes (Archive no_memory))
-no_memory_refuses types name None = tt
-no_memory_refuses types name (Some bytes) = no_memory_at bytes
+    → (packed HEAD_LIMIT).Follows 0 0
+    × IfSome before (λ bytes. MayBeRefused types usual_limits (packed HEAD_LIMIT) name 0 bytes (Archive no_memory))
+no_memory_refuses types name before = (packed_follows HEAD_LIMIT 0 0 (omega arith), some_of before no_memory_at)

@@ -6,7 +6,8 @@ use Rattle.cdxj_core.specs.Entries.{EntryValue, line_text}
 use Rattle.capture_core.specs.declared.fault.CaptureFault.{CaptureFault}
 use Rattle.capture_core.specs.declared.fault.CaptureFault.TheVariants.{Archive, LineTooLong, KeyTooLong}
 use Rattle.capture_core.specs.Capture.{IsCapture}
-use Rattle.capture_core.specs.CaptureAnswer.{Limits, IsEntryOf}
+use Rattle.capture_core.specs.Fault.{fault_offset}
+use Rattle.capture_core.specs.CaptureAnswer.{HasUrl, Limits, IsEntryOf}
 use Rattle.capture_core.specs.Indexed.{url_of}
 use Rattle.archives.specs.Form.{Form, Placed, Stored, Comes, ComesRecord, IsPossibleFault, StandsFrom}
 
@@ -34,13 +35,15 @@ module _ (types : Kind → Bool) (limits : Limits) (form : Form) (name : List �
     pub comes : ComesRecord form offset p (λ r. IsCaptureFrom r captured) before after
     pub stands : StandsFrom form offset p
     pub entry : IfSome captured (IsEntryOf p.place p.head name limits.line)
+    pub under : HasUrl (url_of types p.head) captured
 
   -- what comes next at the offset was read, or refused
   abbrev pub TakesNext : ℕ → Result (Option (Placed × Option EntryValue)) CaptureFault → Option (List ℕ)
       → Option (List ℕ) → Type 0
   TakesNext offset (Ok None) before after = Comes form offset (Ok None) before after
   TakesNext offset (Ok (Some (p, captured))) before after = TakesRecord offset p captured before after
-  TakesNext offset (Err fault) before after = IfSome before (λ bytes. MayBeRefused offset bytes fault)
+  TakesNext offset (Err fault) before after = form.Follows offset (fault_offset fault)
+      × IfSome before (λ bytes. MayBeRefused offset bytes fault)
 
 -- An answer of Read goes with one more failure of the input, any other with none.
 abbrev pub CountsCapture : {A : Type 0} → Result A CaptureFault → ℕ → ℕ → Type 0

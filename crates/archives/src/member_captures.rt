@@ -5,8 +5,9 @@ ghost use Rattle.std.specs.Io.KnownBytes.{prepend_known};
 ghost use Rattle.warc_core.specs.declared.next.TheConstants.{HEAD_LIMIT};
 ghost use Rattle.cdxj_core.specs.declared.limit.TheConstants.{LINE_LIMIT};
 ghost use Rattle.cdxj_core.specs.Entries.{HasLine};
-ghost use Rattle.capture_core.specs.CaptureAnswer.{usual_limits, IsEntryOf};
+ghost use Rattle.capture_core.specs.CaptureAnswer.{usual_limits, HasUrl, IsEntryOf};
 ghost use Rattle.capture_core.specs.Fault.{fault_offset};
+ghost use Rattle.capture_core.specs.Indexed.{url_of};
 ghost use Rattle.capture_core.specs.Types.{includes};
 ghost use Rattle.gzip_members.specs.Left.{left_of, text_of};
 ghost use Rattle.gzip_members.specs.Reading.{taken};
@@ -76,6 +77,8 @@ fn take_capture<I: Input>(
     ensures further { OnOk result.result (opened.start < result.members.source.passed) }
     ensures entry { IfOk result.result (λ c. IfSome c.1
         (IsEntryOf c.0.place c.0.head name.now LINE_LIMIT)) }
+    ensures under { IfOk result.result (λ c. HasUrl (url_of (includes types) c.0.head) c.1) }
+    ensures at { IfErr result.result (λ fault. fault_offset fault ≡ opened.start) }
     ensures failures { CountsCapture result.result (I.failures members.source.input)
         (I.failures result.members.source.input) }
 {

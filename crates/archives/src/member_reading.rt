@@ -1,5 +1,5 @@
 //! The text of a member, as the reader of records takes it.
-ghost use Rattle.std.specs.Prelude.{◌≡◌, IfOk, IfSome};
+ghost use Rattle.std.specs.Prelude.{◌≡◌, IfOk, IfSome, option_map};
 ghost use Rattle.std.specs.Io.KnownBytes.{prepend_known};
 ghost use Rattle.warc_core.specs.Answers.{cause_only, causes_of, CountsRead};
 ghost use Rattle.warc_core.specs.BlockDigest.{judge_record};
@@ -158,6 +158,8 @@ fn capture_known<'a, I: Input, M: Outcome>(
         (prepend_known reader.old.held (text_of (left_of members))) result.result }
     ensures stamp { IfOk result.result (λ parts. IfSome parts (λ p.
         p.stamp ≡ head.now.parts.stamp)) }
+    ensures under { IfOk result.result (λ parts.
+        option_map (λ p. p.url) parts ≡ url_of (includes types) head.now) }
     ensures failures { CountsRead (causes_of result.result) (I.failures members.source.input)
         (I.failures result.members.source.input) }
 {
@@ -187,6 +189,8 @@ pub fn capture<'a, I: Input>(
         (prepend_known reader.old.held (text_of (left_of members))) result.result }
     ensures stamp { IfOk result.result (λ parts. IfSome parts (λ p.
         p.stamp ≡ head.now.parts.stamp)) }
+    ensures under { IfOk result.result (λ parts.
+        option_map (λ p. p.url) parts ≡ url_of (includes types) head.now) }
     ensures failures { CountsRead (causes_of result.result) (I.failures members.source.input)
         (I.failures result.members.source.input) }
 {

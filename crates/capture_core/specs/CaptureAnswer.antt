@@ -10,6 +10,7 @@ use Rattle.capture_core.specs.declared.http_head.TheConstants.{HTTP_HEAD_LIMIT, 
 use Rattle.capture_core.specs.declared.fault.CaptureFault.{CaptureFault}
 use Rattle.capture_core.specs.declared.fault.CaptureFault.TheVariants.{LineTooLong, KeyTooLong}
 use Rattle.capture_core.specs.HttpHead.{then_more}
+use Rattle.capture_core.specs.Utf8Text.{utf8_text}
 use Rattle.warc_core.specs.declared.fault.Fault.{Fault}
 use Rattle.capture_core.specs.declared.place.Place.{Place}
 use Rattle.capture_core.specs.Capture.{BlockValue, PartsValue, ResponseValue, ArePartsUnder, IsBlockOf, IsHeadFor}
@@ -77,3 +78,7 @@ abbrev pub AnswersEntry : ℕ → EntryValue → Result EntryValue CaptureFault 
 AnswersEntry limit entry (Ok held) = held ≡ entry
 AnswersEntry limit entry (Err (LineTooLong o)) = limit < length (line_text entry)
 AnswersEntry limit entry (Err other) = ⊤
+
+-- there is an entry if and only if the head says under which URL, and it has that URL
+abbrev pub HasUrl : Option (List ℕ) → Option EntryValue → Type 0
+HasUrl url captured = option_map (λ e. e.url) captured ≡ option_map utf8_text url

@@ -10,7 +10,7 @@ ghost use Rattle.capture_core.specs.Indexed.{url_of};
 ghost use Rattle.capture_core.specs.Types.{includes};
 ghost use Rattle.capture_core.specs.ResponseView.{response_view};
 ghost use Rattle.capture_core.specs.RecordReading.{ReadsRest, ReadsWhole};
-ghost use Rattle.capture_core.specs.CaptureAnswer.{Captures, GivesParts, IsEntryOf, PartsBlock};
+ghost use Rattle.capture_core.specs.CaptureAnswer.{Captures, GivesParts, HasUrl, IsEntryOf, PartsBlock};
 ghost use Rattle.capture_core.specs.CaptureAnswer.{usual_limits};
 ghost use Rattle.capture_core.specs.CaptureSteps.{HasFront, FillsBehind, ReadsBlock};
 
@@ -81,6 +81,7 @@ pub fn capture<I: Input>(
         (prepend_known reader.old.held (I.remaining input.old)) result }
     ensures entry { IfOk result (λ captured. IfSome captured
         (IsEntryOf (plain_place head.now) head.now name.now LINE_LIMIT)) }
+    ensures under { IfOk result (HasUrl (url_of (includes types) head.now)) }
 {
     let mut front = BlockStart::new(alloc);
     match held_capture(alloc, &mut front, reader, input, head, name, types)? {
@@ -114,6 +115,7 @@ pub fn held_capture<I: Input>(
         (prepend_known reader.old.held (I.remaining input.old)) result }
     ensures entry { IfOk result (λ captured. IfSome captured
         (IsEntryOf (plain_place head.now) head.now name.now LINE_LIMIT)) }
+    ensures under { IfOk result (HasUrl (url_of (includes types) head.now)) }
 {
     match read_capture(front, reader, input, head, types)? {
         Some(parts) => {
@@ -145,6 +147,8 @@ pub fn read_capture<'a, I: Input>(
     ensures parts { GivesParts (url_of (includes types) head.now) usual_limits head.now
         (prepend_known reader.old.held (I.remaining input.old)) result }
     ensures stamp { IfOk result (λ parts. IfSome parts (λ p. p.stamp ≡ head.now.parts.stamp)) }
+    ensures under { IfOk result (λ parts.
+        option_map (λ p. p.url) parts ≡ url_of (includes types) head.now) }
 {
     match url(head, types) {
         Some(url) => {

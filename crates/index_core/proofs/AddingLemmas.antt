@@ -2,7 +2,13 @@
 use Rattle.index_core.proofs.Words.{arith, ◌≡◌, ℕ, ◌≤◌, Bool, List, [], ◌∷◌, ◌++◌, Option}
 use Rattle.index_core.proofs.Words.{None, Some, Ok, IfSome, option_to_list, length, ap, inl, refl}
 use Rattle.index_core.proofs.Words.{append_assoc, Kind, Archive, EntryValue, CaptureFault, Limits}
-use Rattle.index_core.proofs.Words.{AreCaptured, IsAcceptedTo}
+use Rattle.index_core.proofs.Words.{AllByRecursion, AreCaptured, IsAcceptedTo, append-nil}
+use Rattle.std.specs.List.{flat_map}
+use Rattle.std.proofs.lemmas.List.Concat.{flat_map-append}
+use Rattle.cdxj_places.proofs.RisingLaws.{each_join}
+use Rattle.index_core.specs.Adding.{AreByHeads, SaysCapture}
+use Rattle.index_core.specs.Indexing.{AreNamed}
+use Rattle.index_core.proofs.ReportLemmas.{follow_push}
 use Rattle.std.specs.Bool.{⊤}
 use Rattle.warc_core.specs.declared.fault.Cause.TheVariants as causes
 use Rattle.cdxj_core.specs.Entries.{line_text}
@@ -19,6 +25,10 @@ module _ (types : Kind → Bool) (limits : Limits) (form : Form) (name : List �
   AddedSoFar (Some archive) None offset captures = ⊥
   AddedSoFar (Some archive) (Some rest) offset captures = (records : List Stored)
       × WalksOver form 0 archive records offset rest × AreCaptured types limits form name records captures
+
+  pub AddedSoFar-start : (left : Option (List ℕ)) (o : ℕ) → o ≡ 0 → AddedSoFar left left o []
+  AddedSoFar-start None o at = tt
+  AddedSoFar-start (Some archive) o at = ([], (at, refl), refl)
 
   captured_more : (records : List Stored) (captures : List EntryValue) (r : Stored)
       (captured : Option EntryValue) → AreCaptured types limits form name records captures
@@ -80,3 +90,36 @@ module _ (types : Kind → Bool) (limits : Limits) (form : Form) (name : List �
         whole = record { end = o; rest = z; walks = s.1; ended = rw none at r };
         captured = s.2;
       }
+
+  -- ---- by the heads of records
+
+  by_heads_push : (records : List (Placed × Option EntryValue)) (p : Placed) (captured : Option EntryValue)
+      → AllByRecursion (SaysCapture types limits form name) records → SaysCapture types limits form name (p, captured)
+      → AllByRecursion (SaysCapture types limits form name) (records ++ (p, captured) ∷ [])
+  by_heads_push records p captured a s = each_join (SaysCapture types limits form name) records ((p, captured) ∷ []) a (s, tt)
+
+  pub ByHeads-more : (law : IsLawful form) (now after : Option (List ℕ)) (o : ℕ) (gained : List EntryValue) (p : Placed)
+      (captured : Option EntryValue) → AreByHeads types limits form name o gained
+      → TakesRecord types limits form name o p captured now after
+      → AreByHeads types limits form name (end_of p.place) (gained ++ option_to_list captured)
+  ByHeads-more law now after o gained p captured b t = record {
+    records = b.records ++ (p, captured) ∷ [];
+    follow = follow_push form law (λ r. r.0) 0 b.records o (p, captured) b.follow t.stands;
+    said = by_heads_push b.records p captured b.said (t.under, t.entry);
+    captures_are = grind (arith, b.captures_are, flat_map-append, append-nil);
+  }
+
+  -- nothing was read
+  pub ByHeads-none : IsLawful form → (o : ℕ) → o ≡ 0 → AreByHeads types limits form name o []
+  ByHeads-none law o at = rw at (record { records = []; follow = law.here 0; said = tt; captures_are = refl })
+
+  named_in : (records : List (Placed × Option EntryValue)) → AllByRecursion (SaysCapture types limits form name) records
+      → AreNamed name (flat_map (λ r. option_to_list r.1) records)
+  named_in [] said = tt
+  named_in ((p, None) ∷ records) said = named_in records said.1
+  named_in ((p, Some e) ∷ records) said = (said.0.1.filename, named_in records said.1)
+
+  -- captures by heads have the archive's name
+  pub by_heads_named : (end : ℕ) (captures : List EntryValue) → AreByHeads types limits form name end captures
+      → AreNamed name captures
+  by_heads_named end captures b = rw b.captures_are (named_in b.records b.said)

@@ -8,6 +8,7 @@ use Rattle.warc_core.specs.Next.{next_at}
 use Rattle.index_core.specs.Copying.{WroteFront}
 use Rattle.index_core.specs.FetchingAt.{CopiesRecordOf, PassesRecord}
 use Rattle.index_core.proofs.FetchLemmas.{next_copied, record_head}
+use Rattle.index_core.proofs.OneRecordTexts.{no_part}
 
 in_front : (known : Option (List ℕ)) → IfSome known (λ bytes. (more : List ℕ) × (bytes ≡ [] ++ more))
 in_front None = tt
@@ -35,3 +36,5 @@ module _ (limit : ℕ) where
   next_copied_of o h len (Err faults.Write) before mid after w u n e c =
       next_copied limit o h (Err faults.Write) before mid after w u n e c.1
   next_copied_of o h len r before mid after w u n e c = grind arith
+
+pub ruleset passed_rules = (passed_of, no_part)

@@ -5,10 +5,11 @@ pub mod ComingLemmas
 pub mod ReportLemmas
 pub mod VerdictLemmas
 mod IndexLemmas
-mod AddingLemmas
+pub mod AddingLemmas
 mod NameLemmas
 pub mod SoundLemmas
 mod CopyLemmas
+mod OneRecordTexts
 mod FetchLemmas
 mod FetchAtLemmas
 mod MemberFetchLemmas

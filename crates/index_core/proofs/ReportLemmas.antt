@@ -14,7 +14,7 @@ use Rattle.index_core.specs.Report.{ReadTo, Reports, SaysOf, Wording, WritesFaul
 use Rattle.warc_core.specs.declared.fault.Cause.TheVariants as causes
 use Rattle.index_core.specs.declared.fault.IndexFault.TheVariants as faults
 
-follow_push : {X : Type 0} (form : Form) (law : IsLawful form) (placed : X → Placed) (from : ℕ) (items : List X) (o : ℕ)
+pub follow_push : {X : Type 0} (form : Form) (law : IsLawful form) (placed : X → Placed) (from : ℕ) (items : List X) (o : ℕ)
     (x : X) → Follow form placed from items o → StandsFrom form o (placed x)
     → Follow form placed from (items ++ x ∷ []) (end_of (placed x).place)
 follow_push form law placed from [] o x h b = (

@@ -1,14 +1,18 @@
 -- What the addition of an archive makes of what an indexer holds.
-use Rattle.std.specs.Prelude.{◌≡◌, ℕ, ⊤, Bool, List, [], ◌∷◌, ◌++◌, length, Option, Result, Ok, Err, IfSome}
+use Rattle.std.specs.Prelude.{◌≡◌, ℕ, ⊤, Bool, List, [], ◌∷◌, ◌++◌, length, flat_map, option_to_list, Option, Result, Ok}
+use Rattle.std.specs.Prelude.{Err, IfSome}
+use Rattle.std.specs.List.{AllByRecursion}
 use Rattle.warc_core.specs.Kind.{Kind}
 use Rattle.cdxj_core.specs.Entries.{EntryValue}
 use Rattle.capture_core.specs.declared.fault.CaptureFault.{CaptureFault}
-use Rattle.capture_core.specs.CaptureAnswer.{Limits}
+use Rattle.capture_core.specs.CaptureAnswer.{HasUrl, IsEntryOf, Limits}
+use Rattle.capture_core.specs.Fault.{fault_offset}
+use Rattle.capture_core.specs.Indexed.{url_of}
 use Rattle.index_core.specs.declared.fault.IndexFault.{IndexFault}
 use Rattle.index_core.specs.declared.fault.IndexFault.TheVariants as faults
-use Rattle.archives.specs.Form.{Form}
+use Rattle.archives.specs.Form.{Follow, Form, Placed}
 use Rattle.index_core.specs.Accepted.{IsAccepted, IsAcceptedTo}
-use Rattle.index_core.specs.Indexing.{Held, AreNamed}
+use Rattle.index_core.specs.Indexing.{Held}
 
 -- what is held with one more archive
 abbrev pub with_archive : List ℕ → List EntryValue → Held → Held
@@ -16,11 +20,23 @@ with_archive name captures held = record held { names = held.names ++ name ∷ [
 
 -- the types of records that are indexed, the limits of captures, the form of the archive, and its name
 module _ (types : Kind → Bool) (limits : Limits) (form : Form) (name : List ℕ) where
+  -- what the head of a record says of its capture: there is one if the record is indexed, for its URL and its place
+  abbrev pub SaysCapture : Placed × Option EntryValue → Type 0
+  SaysCapture (p, captured) = HasUrl (url_of types p.head) captured
+      × IfSome captured (IsEntryOf p.place p.head name limits.line)
+
+  -- records that follow one another from the start up to `end`, and these are their captures, as their heads say
+  pub record AreByHeads (end : ℕ) (captures : List EntryValue) : Type 0 where
+    pub records : List (Placed × Option EntryValue)
+    pub follow : Follow form (λ r. r.0) 0 records end
+    pub said : AllByRecursion SaysCapture records
+    pub captures_are : captures ≡ flat_map (λ r. option_to_list r.1) records
+
   -- which captures a list gains from an archive, and the number that is answered
   abbrev pub Gains : Option (List ℕ) → List EntryValue → Result ℕ CaptureFault → Type 0
-  Gains left captures (Ok n) = (n ≡ length captures) × AreNamed name captures
+  Gains left captures (Ok n) = (n ≡ length captures) × ((end : ℕ) × AreByHeads end captures)
       × IfSome left (λ archive. IsAccepted types limits form name archive captures)
-  Gains left captures (Err fault) = AreNamed name captures
+  Gains left captures (Err fault) = ((end : ℕ) × AreByHeads end captures × form.Follows end (fault_offset fault))
       × IfSome left (λ archive. IsAcceptedTo types limits form name fault archive captures)
 
   -- what an addition makes of what an indexer holds

@@ -10,6 +10,8 @@ use Rattle.capture_core.specs.CaptureAnswer.{Limits}
 use Rattle.index_core.specs.declared.fault.IndexFault.{IndexFault}
 use Rattle.archives.specs.Captures.{IsCaptureFrom}
 use Rattle.index_core.specs.Accepted.{IsAccepted, IsAcceptedTo, IsAcceptedWhole}
+use Rattle.index_core.specs.Adding.{AreByHeads}
+use Rattle.index_core.specs.Indexing.{AreNamed}
 use Rattle.warc_core.specs.declared.fault.Fault.{Fault}
 use Rattle.warc_core.specs.Walk.{AreRecords, IsDamaged}
 use Rattle.archives.specs.Packing.{Packing, form_to}
@@ -90,12 +92,12 @@ CapturesStand = (types : Kind → Bool) (limits : Limits) (limit : ℕ) (name ar
     → (h : HeadView) × IsRecordOf limit archive e.offset h × (record_length h ≡ e.length)
     × IsCaptureFrom types limits (plain limit) name (plain_record h (drop h.start archive)) (Some e)
 
--- a plain archive that has grown, and is accepted whole as it was before, has its captures, and further ones behind them
+-- an archive that has grown, and is accepted whole as it was before, has its captures, and further ones behind them
 abbrev pub GrownKeepsCaptures : Type 0
-GrownKeepsCaptures = (types : Kind → Bool) (limits : Limits) (limit : ℕ) (name archive more : List ℕ)
+GrownKeepsCaptures = (types : Kind → Bool) (limits : Limits) (limit : ℕ) (packing : Packing) (name archive more : List ℕ)
     (captures grown : List EntryValue)
-    → IsAccepted types limits (plain limit) name archive captures
-    → IsAccepted types limits (plain limit) name (archive ++ more) grown
+    → IsAccepted types limits (form_to limit packing) name archive captures
+    → IsAccepted types limits (form_to limit packing) name (archive ++ more) grown
     → (added : List EntryValue) × (grown ≡ captures ++ added)
 
 -- an archive that is accepted whole is so under higher limits of lines and heads
@@ -111,3 +113,9 @@ CapturesStay = (types : Kind → Bool) (limits : Limits) (line low high : ℕ) �
     → (name archive : List ℕ) (captures : List EntryValue)
     → IsAccepted types limits (plain low) name archive captures
     → IsAccepted types (record limits { line = line }) (plain high) name archive captures
+
+-- captures by the heads of records have the archive's name
+abbrev pub HaveArchiveName : Type 0
+HaveArchiveName = (types : Kind → Bool) (limits : Limits) (limit : ℕ) (packing : Packing) (name : List ℕ) (end : ℕ)
+    (captures : List EntryValue)
+    → AreByHeads types limits (form_to limit packing) name end captures → AreNamed name captures

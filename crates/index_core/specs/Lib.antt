@@ -9,6 +9,7 @@ pub mod Fetching
 pub mod FetchingAt
 pub mod FetchingIn
 pub mod Copying
+pub mod OneRecord
 pub mod Counting
 pub mod Laws
 pub mod FetchingLaws

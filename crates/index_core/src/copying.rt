@@ -1,8 +1,12 @@
 //! The copying of a record.
+ghost use Rattle.std.specs.Prelude.{IfErr};
 ghost use Rattle.std.specs.Io.KnownBytes.{prepend_known};
+ghost use Rattle.warc_core.specs.declared.next.TheConstants.{HEAD_LIMIT};
 ghost use Rattle.warc_core.specs.ReaderView.{IsUnread, state_of};
 ghost use Rattle.index_core.specs.Counting.{CountsIndex, CountsIndexWrite};
+ghost use Rattle.warc_core.specs.RecordText.{IsHead};
 ghost use Rattle.index_core.specs.Copying.{CopiesHeadAndBlock, CopiesRecord};
+ghost use Rattle.index_core.specs.OneRecord.{WritesOneRecord, WritesPart};
 
 use crate::fault::IndexFault;
 use crate::writing::put_bytes;
@@ -20,6 +24,9 @@ fn copy_head_and_block<I: Input, O: Output>(
         (prepend_known reader.old.held (I.remaining input.old))
         (state_of reader.new (I.remaining input.new) (I.failures input.new)) (O.written out.old)
         (O.written out.new) }
+    ensures said { IsHead HEAD_LIMIT head.now }
+    ensures part { IfErr result (λ _.
+        WritesPart HEAD_LIMIT (O.written out.old) (O.written out.new)) }
     ensures reads { CountsIndex result (I.failures input.old) (I.failures input.new) }
     ensures writes { CountsIndexWrite result (O.failures out.old) (O.failures out.new) }
 {
@@ -46,6 +53,8 @@ pub fn copy_record<I: Input, O: Output>(
     out: &mut O,
 ) -> Result<u64, IndexFault>
     requires { IsUnread reader.old head.now }
+    ensures record { WritesOneRecord HEAD_LIMIT result (O.written out.old)
+        (O.written out.new) }
     ensures copies { CopiesRecord head.now result
         (prepend_known reader.old.held (I.remaining input.old))
         (prepend_known reader.new.held (I.remaining input.new)) (O.written out.old)

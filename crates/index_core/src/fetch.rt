@@ -1,9 +1,11 @@
 //! The fetching of a record of an archive of either form.
 ghost use Rattle.std.specs.Prelude.{◌≡◌, None, Some, IfErr};
+ghost use Rattle.warc_core.specs.declared.next.TheConstants.{HEAD_LIMIT};
 ghost use Rattle.archives.specs.State.{IsUnread};
 ghost use Rattle.index_core.specs.Counting.{CountsIndex, CountsIndexWrite};
 ghost use Rattle.index_core.specs.Fetching.{IsFetchFault};
 ghost use Rattle.index_core.specs.FetchingIn.{FetchesIn, IsUnwrittenBy};
+ghost use Rattle.index_core.specs.OneRecord.{WritesOneRecord};
 
 use crate::fault::IndexFault;
 use archives::Archive;
@@ -22,6 +24,8 @@ pub trait Fetch: Archive {
         requires { IsUnread (Self.state self.old) }
         ensures fetches { FetchesIn (Self.state self.old).packing None offset
             (Self.state self.old).ahead result (O.written out.old) (O.written out.new) }
+        ensures record { WritesOneRecord HEAD_LIMIT result (O.written out.old)
+            (O.written out.new) }
         ensures refusals { IfErr result IsFetchFault }
         ensures unwritten { IfErr result (λ fault. IsUnwrittenBy (Self.state self.old).packing None
             offset fault → out.new ≡ out.old) }
@@ -40,6 +44,8 @@ pub trait Fetch: Archive {
         requires { IsUnread (Self.state self.old) }
         ensures fetches { FetchesIn (Self.state self.old).packing (Some length) offset
             (Self.state self.old).ahead result (O.written out.old) (O.written out.new) }
+        ensures record { WritesOneRecord HEAD_LIMIT result (O.written out.old)
+            (O.written out.new) }
         ensures refusals { IfErr result IsFetchFault }
         ensures unwritten { IfErr result (λ fault. IsUnwrittenBy (Self.state self.old).packing
             (Some length) offset fault → out.new ≡ out.old) }

@@ -10,6 +10,7 @@ ghost use Rattle.archives.specs.State.{IsUnread};
 ghost use Rattle.index_core.specs.Counting.{CountsIndex, CountsIndexWrite};
 ghost use Rattle.index_core.specs.Fetching.{IsFetchFault};
 ghost use Rattle.index_core.specs.FetchingIn.{FetchesMember, IsUnwrittenBy};
+ghost use Rattle.index_core.specs.OneRecord.{WritesOneRecord};
 
 use crate::fault::IndexFault;
 use crate::fetch::Fetch;
@@ -29,6 +30,8 @@ fn get_packed<I: Input + Drop, O: Output>(
     requires { IsUnread (packed_state file.old) }
     ensures fetches { FetchesMember HEAD_LIMIT asked offset
         (option_map (drop offset) (packed_state file.old).ahead) result (O.written out.old)
+        (O.written out.new) }
+    ensures record { WritesOneRecord HEAD_LIMIT result (O.written out.old)
         (O.written out.new) }
     ensures refusals { IfErr result IsFetchFault }
     ensures unwritten { IfErr result (λ fault. IsUnwrittenBy Packed asked offset fault

@@ -1,5 +1,5 @@
 //! The fetching of a record of a plain archive by its offset.
-ghost use Rattle.std.specs.Prelude.{◌≡◌, ℕ, ◌-◌, ◌^◌, ◌≤◌, Err, IfErr};
+ghost use Rattle.std.specs.Prelude.{◌≡◌, ℕ, ◌-◌, ◌^◌, ◌≤◌, Err, IfErr, IfOk};
 ghost use Rattle.std.specs.Io.KnownBytes.{prepend_known};
 ghost use Rattle.warc_core.specs.Answers.{causes_of, CountsRead};
 ghost use Rattle.index_core.specs.Counting.{CountsIndex, CountsIndexWrite};
@@ -7,6 +7,7 @@ ghost use Rattle.index_core.specs.Copying.{CopiesNext, Reaches};
 ghost use Rattle.index_core.specs.Fetching.{Fetches, IsFetchFault, IsMetBefore};
 ghost use Rattle.index_core.specs.FetchingAt.{CopiesNextOf, CopiesRecordOf, FetchesAt};
 ghost use Rattle.index_core.specs.FetchingAt.{PassesRecord};
+ghost use Rattle.index_core.specs.OneRecord.{WritesOneRecord};
 ghost use Rattle.warc_core.specs.ReaderView.{HasLeft, IfOpen, IsUnread, StandsAt};
 
 use crate::copying::copy_record;
@@ -68,6 +69,8 @@ fn get_plain<I: Input, O: Output>(
     ensures fetches { Fetches HEAD_LIMIT offset
         (prepend_known reader.old.held (I.remaining input.old)) result (O.written out.old)
         (O.written out.new) }
+    ensures record { WritesOneRecord HEAD_LIMIT result (O.written out.old)
+        (O.written out.new) }
     ensures refusals { IfErr result IsFetchFault }
     ensures unwritten { IfErr result (λ fault. IsMetBefore offset fault → out.new ≡ out.old) }
     ensures reads { CountsIndex result (I.failures input.old) (I.failures input.new) }
@@ -95,6 +98,8 @@ fn get_plain_at<I: Input, O: Output>(
     ensures fetches { FetchesAt HEAD_LIMIT offset length
         (prepend_known reader.old.held (I.remaining input.old)) result (O.written out.old)
         (O.written out.new) }
+    ensures record { WritesOneRecord HEAD_LIMIT result (O.written out.old)
+        (O.written out.new) }
     ensures refusals { IfErr result IsFetchFault }
     ensures unwritten { IfErr result (λ fault. IsMetBefore offset fault → out.new ≡ out.old) }
     ensures reads { CountsIndex result (I.failures input.old) (I.failures input.new) }
@@ -116,6 +121,8 @@ fn copy_next_of<I: Input, O: Output>(
     ensures copies { CopiesNextOf HEAD_LIMIT reader.old.offset length result
         (prepend_known reader.old.held (I.remaining input.old)) (O.written out.old)
         (O.written out.new) }
+    ensures record { WritesOneRecord HEAD_LIMIT result (O.written out.old)
+        (O.written out.new) }
     ensures unwritten { result ≡ Err IndexFault.NoRecord → out.new ≡ out.old }
     ensures reads { CountsIndex result (I.failures input.old) (I.failures input.new) }
     ensures writes { CountsIndexWrite result (O.failures out.old) (O.failures out.new) }
@@ -128,7 +135,7 @@ fn copy_next_of<I: Input, O: Output>(
 
 /// Writes the record with this head if it has this length in bytes, and returns the length. None of
 /// its block was read. Otherwise reads it to its end.
-#[tactic(auto, using(crate::proofs::FetchAtLemmas::passed_of))]
+#[tactic(auto, using(crate::proofs::FetchAtLemmas::passed_rules))]
 fn copy_record_of<I: Input, O: Output>(
     reader: &mut Reader,
     input: &mut I,
@@ -140,6 +147,8 @@ fn copy_record_of<I: Input, O: Output>(
     ensures copies { CopiesRecordOf head.now length result
         (prepend_known reader.old.held (I.remaining input.old))
         (prepend_known reader.new.held (I.remaining input.new)) (O.written out.old)
+        (O.written out.new) }
+    ensures record { WritesOneRecord HEAD_LIMIT result (O.written out.old)
         (O.written out.new) }
     ensures unwritten { result ≡ Err IndexFault.NoRecord → out.new ≡ out.old }
     ensures reads { CountsIndex result (I.failures input.old) (I.failures input.new) }
@@ -158,6 +167,7 @@ fn pass_record<I: Input>(reader: &mut Reader, input: &mut I) -> Result<u64, Inde
     ensures passes { IfOpen reader.old.phase (λ left _. PassesRecord left reader.old.offset result
         (prepend_known reader.old.held (I.remaining input.old))
         (prepend_known reader.new.held (I.remaining input.new))) }
+    ensures refused { IfOk result (λ _. ⊥) }
     ensures reads { CountsIndex result (I.failures input.old) (I.failures input.new) }
 {
     match reader.finish(input) {
@@ -195,6 +205,8 @@ fn copy_next<I: Input, O: Output>(
     requires { reader.old.phase ≡ Phase.Between }
     ensures copies { CopiesNext HEAD_LIMIT reader.old.offset result
         (prepend_known reader.old.held (I.remaining input.old)) (O.written out.old)
+        (O.written out.new) }
+    ensures record { WritesOneRecord HEAD_LIMIT result (O.written out.old)
         (O.written out.new) }
     ensures unwritten { result ≡ Err IndexFault.NoRecord → out.new ≡ out.old }
     ensures reads { CountsIndex result (I.failures input.old) (I.failures input.new) }

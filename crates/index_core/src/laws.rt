@@ -2,7 +2,8 @@
 //! contract.
 ghost use Rattle.index_core.specs.Laws.{AcceptedIsWhole, OneIndexed, OneIndexedTo, CapturesStand};
 ghost use Rattle.index_core.specs.Laws.{OneStands, SomeStands, WholeIsNotRefused, WholeStays};
-ghost use Rattle.index_core.specs.Laws.{CapturesStay, GrownKeepsCaptures, PlainIsDamaged, PlainIsWhole};
+ghost use Rattle.index_core.specs.Laws.{CapturesStay, GrownKeepsCaptures, HaveArchiveName};
+ghost use Rattle.index_core.specs.Laws.{PlainIsDamaged, PlainIsWhole};
 ghost use Rattle.index_core.specs.FetchingLaws.{LengthAgrees, OffsetAgrees, CapturesAreFetched};
 ghost use Rattle.index_core.specs.RecordLaws.{IsReadToFault, IsReadWhole};
 ghost use Rattle.index_core.specs.MemberLaws.{MembersArePacked, PackedIsMembers};
@@ -72,7 +73,7 @@ pub fn accepted_archive_stays_accepted()
     ensures captures { CapturesStay }
 {}
 
-/// A plain archive to which records were appended has the captures that it had, and further ones behind them: what was
+/// An archive to which records or members were appended has the captures that it had, and further ones behind them: what was
 /// indexed of it needn't be indexed again.
 pub fn grown_archive_keeps_its_captures()
     ensures { GrownKeepsCaptures }
@@ -131,6 +132,11 @@ pub fn list_writes_one_text()
 /// the output failed, a prefix of this or of the whole text was written.
 pub fn verify_writes_one_text()
     ensures { IsReport verification }
+{}
+
+/// Captures that the heads of an archive's records give have the archive's name.
+pub fn captures_have_their_archives_name()
+    ensures { HaveArchiveName }
 {}
 
 /// The archive decides which captures an indexer adds, unless the name is refused, the input fails,

@@ -18,6 +18,7 @@ ghost use Rattle.index_core.specs.Copying.{CopiesRecord};
 ghost use Rattle.index_core.specs.Fetching.{IsFetchFault};
 ghost use Rattle.index_core.specs.FetchingIn.{FetchesMember, IsOfLength, IsUnwrittenBy};
 ghost use Rattle.index_core.specs.FetchingIn.{PassesTo, cause_in, not_begun};
+ghost use Rattle.index_core.specs.OneRecord.{WritesOneRecord};
 
 use crate::copying::copy_record;
 use crate::fault::IndexFault;
@@ -49,6 +50,8 @@ fn copy_known<I: Input, M: Outcome, O: Output>(
         (prepend_known reader.old.held (text_of (left_of members)))
         (prepend_known reader.new.held (text_of (left_of result.members))) (O.written out.old)
         (O.written out.new) }
+    ensures record { WritesOneRecord HEAD_LIMIT result.result (O.written out.old)
+        (O.written out.new) }
     ensures reads { CountsIndex result.result (I.failures members.source.input)
         (I.failures result.members.source.input) }
     ensures writes { CountsIndexWrite result.result (O.failures out.old) (O.failures out.new) }
@@ -74,6 +77,8 @@ fn copy<I: Input, O: Output>(
     ensures copies { CopiesRecord head.now result.result
         (prepend_known reader.old.held (text_of (left_of members)))
         (prepend_known reader.new.held (text_of (left_of result.members))) (O.written out.old)
+        (O.written out.new) }
+    ensures record { WritesOneRecord HEAD_LIMIT result.result (O.written out.old)
         (O.written out.new) }
     ensures reads { CountsIndex result.result (I.failures members.source.input)
         (I.failures result.members.source.input) }
@@ -104,6 +109,7 @@ fn cause_in(fault: IndexFault) -> Option<Cause>
 
 /// Writes the record with this head, which was read from the member that begins at `start`, and
 /// reads the member to its end.
+#[tactic(auto, using(crate::proofs::OneRecordTexts::part_rules))]
 fn fetch_record<I: Input, O: Output>(
     members: Members<I>,
     reader: &mut Reader,
@@ -118,6 +124,8 @@ fn fetch_record<I: Input, O: Output>(
         → IfSome known (λ bytes. HoldsHead start bytes head.now (left_of members)
         (taken members.source) (prepend_known reader.old.held (text_of (left_of members))))
         → FetchesMember HEAD_LIMIT asked start known result.result (O.written out.old)
+        (O.written out.new) }
+    ensures record { WritesOneRecord HEAD_LIMIT result.result (O.written out.old)
         (O.written out.new) }
     ensures refusals { IfErr result.result IsFetchFault }
     ensures unwritten { IfErr result.result (λ fault. IsUnwrittenBy Packed asked start fault
@@ -181,6 +189,8 @@ fn fetch_begun<I: Input, O: Output>(
         × StartsMember start bytes (Ok true) (left_of members) (taken members.source))
         → FetchesMember HEAD_LIMIT asked start known result.result (O.written out.old)
         (O.written out.new) }
+    ensures record { WritesOneRecord HEAD_LIMIT result.result (O.written out.old)
+        (O.written out.new) }
     ensures refusals { IfErr result.result IsFetchFault }
     ensures unwritten { IfErr result.result (λ fault. IsUnwrittenBy Packed asked start fault
         → out.new ≡ out.old) }
@@ -216,6 +226,8 @@ fn fetch_next<I: Input, O: Output>(
 ) -> Fetched<I>
     ensures fetches { FetchesMember HEAD_LIMIT asked members.source.passed
         (file_ahead (taken members.source)) result.result (O.written out.old) (O.written out.new) }
+    ensures record { WritesOneRecord HEAD_LIMIT result.result (O.written out.old)
+        (O.written out.new) }
     ensures refusals { IfErr result.result IsFetchFault }
     ensures unwritten { IfErr result.result (λ fault. IsUnwrittenBy Packed asked
         members.source.passed fault → out.new ≡ out.old) }
@@ -292,6 +304,8 @@ pub fn get_member<I: Input, O: Output>(
     ensures fetches { FetchesMember HEAD_LIMIT asked offset
         (option_map (drop offset) (file_ahead (taken members.source))) result.result
         (O.written out.old) (O.written out.new) }
+    ensures record { WritesOneRecord HEAD_LIMIT result.result (O.written out.old)
+        (O.written out.new) }
     ensures refusals { IfErr result.result IsFetchFault }
     ensures unwritten { IfErr result.result (λ fault. IsUnwrittenBy Packed asked offset fault
         → out.new ≡ out.old) }

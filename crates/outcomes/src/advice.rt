@@ -233,7 +233,7 @@ pub fn end_advice(outcome: Outcome) -> Option<&'static str> {
 /// Returns why the index of this name can't be read.
 pub fn unread_advice<R: Runtime>(rt: &R, name: &str) -> &'static str {
     if is_folder(rt, name) {
-        "It is a folder."
+        "It is a folder: of an index of warcdx-update, name its current/*.cdxj."
     } else if is_file(rt, name) {
         "The file is shorter than it was, or can't be read."
     } else {

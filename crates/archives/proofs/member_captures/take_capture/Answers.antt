@@ -1,6 +1,8 @@
-use Rattle.std.proofs.Common.{ap, option_map}
+use Rattle.std.proofs.Common.{ap, option_map, ◌∙◌}
+use Rattle.cdxj_core.specs.declared.limit.TheConstants.{LINE_LIMIT}
 use Rattle.capture_core.specs.Capture.{entry_from}
 use Rattle.capture_core.specs.CaptureAnswer.{usual_limits}
+use Rattle.capture_core.specs.Indexed.{url_of}
 use Rattle.capture_core.specs.Types.{includes}
 use Rattle.warc_core.specs.declared.next.TheConstants.{HEAD_LIMIT}
 use Rattle.warc_core.specs.Record.{after_record}
@@ -9,7 +11,7 @@ use Rattle.gzip_members.specs.Reading.{taken}
 use Rattle.archives.specs.Captures.{IsCaptureFrom}
 use Rattle.archives.specs.MemberReading.{file_ahead}
 use Rattle.archives.specs.Packed.{packed}
-use Rattle.archives.proofs.MemberCaptureLemmas.{captured_there, line_refused, reading_err}
+use Rattle.archives.proofs.MemberCaptureLemmas.{captured_there, line_at, line_refused, line_url, reading_err}
 use Rattle.archives.proofs.RecordLemmas.{counts_closed, member_fails, record_fails, record_there}
 use Rattle.archives.proofs.member_captures.take_capture.Goals as goal
 
@@ -68,3 +70,13 @@ pub returns-in-Err-clause-failures : goal.returns-in-Err-clause-failures
 returns-in-Err-clause-failures g c =
     counts_closed c.in-Err.fault.cause c.end_fault-fault.result.cause _ _ _
     (rw c.in-Err.is at c.capture-members.ensures.failures) c.end_fault-fault.ensures.failures
+
+pub returns-in-Ok-line_of-clause-under : goal.returns-in-Ok-line_of-clause-under
+returns-in-Ok-line_of-clause-under g c =
+    rw c.in-Ok-line_of.ensures.answers (line_url c.in-Ok-end_record.place c.args.name.now _
+    (url_of (includes c.args.types) c.args.opened.head) (rw c.in-Ok.is at c.capture-members.ensures.under))
+
+pub returns-in-Err-line_of-clause-at : goal.returns-in-Err-line_of-clause-at
+returns-in-Err-line_of-clause-at g c =
+    line_at LINE_LIMIT c.in-Ok-end_record.place c.args.name.now _ c.in-Err-line_of.fault c.in-Err-line_of.ensures.answers
+    ∙ ap (λ p. p.offset) c.in-Ok-end_record.ensures.place

@@ -4,7 +4,8 @@ use Rattle.cdxj_core.specs.declared.limit.TheConstants.{LINE_LIMIT}
 use Rattle.capture_core.specs.Types.{includes}
 use Rattle.capture_core.specs.CaptureAnswer.{usual_limits}
 use Rattle.archives.specs.Packing.{form_of}
-use Rattle.index_core.specs.Indexing.{AreNamed, AreSound, StandBefore}
+use Rattle.index_core.specs.Adding.{AreByHeads}
+use Rattle.index_core.specs.Indexing.{AreSound, StandBefore}
 use Rattle.index_core.proofs.AddingLemmas.{AddedSoFar}
 use Rattle.index_core.proofs.captures.add_captures.Given as goal
 
@@ -17,7 +18,8 @@ invariant-loop-captures g l = record {
   gains : (gained : List EntryValue) × (l.captures.items ≡ l.fn.captures.items ++ gained)
       × AddedSoFar (includes l.types) usual_limits (form_of (g.A.Archive.state l.fn.archive).packing) l.name
       (g.A.Archive.state l.fn.archive).ahead (g.A.Archive.state l.archive).ahead (g.A.Archive.state l.archive).offset
-      gained × AreNamed l.name gained;
+      gained × AreByHeads (includes l.types) usual_limits (form_of (g.A.Archive.state l.fn.archive).packing) l.name
+      (g.A.Archive.state l.archive).offset gained;
   before : StandBefore l.name (g.A.Archive.state l.archive).offset l.captures.items;
   sound : (names : List (List ℕ)) → is_among names l.name ≡ true → AreSound LINE_LIMIT names l.fn.captures.items
       → AreSound LINE_LIMIT names l.captures.items;
