@@ -1,17 +1,21 @@
 -- How far a check has come.
-use Rattle.query_core.proofs.Words.{[], ℕ, ◌++◌, ◌+◌, ◌∙◌, ◌∷◌, ◌≡◌, ◌≤◌, AllByRecursion, Err, IsIndex, LINE_LIMIT}
-use Rattle.query_core.proofs.Words.{List, Member, NeverFalls, None, Option, Some, Upto, ap, arith, drop, each_join}
-use Rattle.query_core.proofs.Words.{each_weaker, length, length-append, length-drop, line_entry, map-append}
-use Rattle.query_core.proofs.Words.{member_pair, pair_cmp, refl, sym, take, take-append-drop, take_all, upto_upto}
-use Rattle.std.specs.Prelude.{MatchOption}
-use Rattle.std.proofs.lemmas.List.{drop-drop}
+use Rattle.query_core.proofs.Words.{[], ℕ, ◌++◌, ◌+◌, ◌∙◌, ◌∷◌, ◌≡◌, AllByRecursion, Err, LINE_LIMIT}
+use Rattle.query_core.proofs.Words.{List, Member, NeverFalls, None, Option, Some, Upto, append-nil, append_assoc, arith}
+use Rattle.query_core.proofs.Words.{drop, each_join, each_weaker, flat_map-append, length, length-append, line_entry}
+use Rattle.query_core.proofs.Words.{AnswerFault, Ok, ap, map-append, member_pair, pair_cmp, refl, subst, sym}
+use Rattle.query_core.proofs.Words.{upto_upto, ⊤}
+use Rattle.std.proofs.Common.{Result}
 use Rattle.cdxj_core.specs.Indexes.{IsRun}
-use Rattle.source_core.specs.{IndexLines.lines, LinesAtFault.LineBeginsAt}
-use Rattle.source_core.proofs.SortedCuts.{begins_at}
-use Rattle.merge_core.specs.{LineFaults.IsFeedFaultAt, NextLine.IsNextLine, declared.fault.FeedFault.FeedFault}
+use Rattle.source_core.specs.{Device.OverText, IndexLines.lines, LinesAtFault.LineBeginsAt}
+use Rattle.merge_core.specs.{LineFaults.IsBadFirst, LineFaults.IsFeedFaultAt, LineFaults.IsOfLineAt}
+use Rattle.merge_core.specs.{NextLine.IsLineRead}
+use Rattle.merge_core.specs.declared.fault.FeedFault.{FeedFault}
+use Rattle.merge_core.specs.declared.fault.FeedFault.TheVariants as feed
 use Rattle.query_core.specs.Conversions.{fault_of_index}
-use Rattle.query_core.specs.Checking.{EndsOutOfOrder, FallsAfter, IsChecked, IsLastOf}
-use Rattle.merge_core.proofs.InputLemmas.{falls_last, falls_push, take_next}
+use Rattle.query_core.specs.declared.fault.AnswerFault.TheVariants as answer
+use Rattle.query_core.specs.CheckLaws.{CheckedIsText, IsCheckedText}
+use Rattle.query_core.specs.Checking.{AreCheckedTo, EndsOutOfOrder, FallsAfter, IsChecked, IsLastOf}
+use Rattle.merge_core.proofs.InputLemmas.{falls_last, falls_push}
 
 all_upto : (members : List Member) (previous : Option Member) (m : Member) → IsLastOf members previous
     → (FallsAfter previous m → ⊥) → NeverFalls member_pair pair_cmp members
@@ -29,49 +33,113 @@ run_push : (ls : List (List ℕ)) (members : List Member) (previous : Option Mem
     → line_entry LINE_LIMIT l ≡ Some m → (FallsAfter previous m → ⊥) → IsRun LINE_LIMIT (ls ++ l ∷ []) (members ++ m ∷ [])
 run_push ls members previous l m run is entry stays = grind (arith, map-append, falls_push, all_upto)
 
-module _ (t : List ℕ) where
+module _ (told : Option (List ℕ)) where
   -- so many lines, up to an offset, are an index by themselves, of which this is the last
   pub record CheckedTo (at count : ℕ) (previous : Option Member) : Type 0 where
-    pub members : List Member
-    pub run : IsRun LINE_LIMIT (take count (lines t)) members
-    pub last : IsLastOf members previous
-    pub as_many : count ≡ length members
-    pub rest : lines (drop at t) ≡ drop count (lines t)
+    pub checked : AreCheckedTo told at (λ behind. ⊤)
+    pub last : IsLastOf checked.members previous
+    pub as_many : count ≡ length checked.members
 
-  module _ {at count : ℕ} {previous : Option Member} (checked : CheckedTo at count previous) where
-    pub checked_more : (to : ℕ) (m : Member) → IsNextLine t at to (Some m) → (FallsAfter previous m → ⊥)
+  pub checked_none : CheckedTo 0 0 None
+  checked_none = record {
+    checked = record {
+      before = [];
+      members = [];
+      run = record { entries = refl; ordered = tt };
+      ends = refl;
+      known = λ t e. (refl, tt);
+    };
+    last = refl;
+    as_many = refl;
+  }
+
+  module _ {at count : ℕ} {previous : Option Member} (c : CheckedTo at count previous) where
+    -- what stands behind the lines
+    abbrev behind : (P : List (List ℕ) → Type 0) → OverText told (λ t. P (lines (drop at t))) → AreCheckedTo told at P
+    behind P p = record {
+      before = c.checked.before;
+      members = c.checked.members;
+      run = c.checked.run;
+      ends = c.checked.ends;
+      known = λ t e. ((c.checked.known t e).0, p t e);
+    }
+
+    pub checked_more : (to : ℕ) (m : Member) → IsLineRead told at to (Some m) → (FallsAfter previous m → ⊥)
         → CheckedTo to (count + 1) (Some m)
-    checked_more to m next stays =
-        let grown = take_next count (lines t) next.0 (lines (drop to t)) (sym checked.rest ∙ next.1) in
-        record {
-          members = checked.members ++ m ∷ [];
-          run = rw grown (run_push _ checked.members previous next.0 m checked.run checked.last next.2 stays);
-          last = (checked.members, refl);
-          as_many = grind (arith, length-append);
-          rest = sym (ap (drop 1) (sym checked.rest ∙ next.1)) ∙ drop-drop 1 count (lines t);
-        }
+    checked_more to m (line, entry, there, read) stays = record {
+      checked = record {
+        before = c.checked.before ++ line ∷ [];
+        members = c.checked.members ++ m ∷ [];
+        run = run_push _ c.checked.members previous line m c.checked.run c.last entry stays;
+        ends = grind (arith, c.checked.ends, flat_map-append, length-append, append-nil);
+        known = λ t e. (
+          (c.checked.known t e).0 ∙ rw (read t e) (sym (append_assoc c.checked.before (line ∷ []) (lines (drop to t)))),
+          tt,
+        );
+      };
+      last = (c.checked.members, refl);
+      as_many = grind (arith, length-append);
+    }
 
-    pub checked_whole : (to number : ℕ) (found : Option Member) → IsNextLine t at to found
-        → MatchOption found (number ≡ count) (λ _. number ≡ count + 1) → ((m : Member) → found ≡ Some m → ⊥)
-        → (members : List Member) × IsIndex LINE_LIMIT t members × (number ≡ length members)
-    checked_whole to number None none counted end =
-        let e = sym checked.rest ∙ none in
-        let whole = take_all count (lines t) (omega (arith, ap length e, length-drop count (lines t))) in
-        grind arith
-    checked_whole to number (Some m) next counted end = absurd (end m refl)
+    -- no line is left
+    pub checked_whole : (to size number : ℕ) → IsLineRead told at to None → to ≡ size → number ≡ count
+        → IsChecked told size (Ok number)
+    checked_whole to size number (there, none) end same =
+        rw (← end, there) (behind (λ ls. ls ≡ []) none, grind arith)
 
-    cut : lines t ≡ take count (lines t) ++ lines (drop at t)
-    cut = grind (arith, take-append-drop)
+    pub checked_falls : (to : ℕ) (m : Member) → IsLineRead told at to (Some m) → FallsAfter previous m
+        → EndsOutOfOrder told at
+    checked_falls to m (line, entry, there, read) falls = record {
+      line = line;
+      member = m;
+      entry = entry;
+      checked = behind (λ ls. (after : List (List ℕ)) × (ls ≡ line ∷ after)) (λ t e. (lines (drop to t), read t e));
+      previous = previous;
+      previous_is = c.last;
+      falls = falls;
+    }
 
-    module _ (inside : at ≤ length t) where
-      begins : (line : List ℕ) (after : List (List ℕ)) → lines (drop at t) ≡ line ∷ after
-          → LineBeginsAt t at (take count (lines t)) line
-      begins line after e = grind (arith, cut, begins_at)
+    pub checked_fault : (e : FeedFault) → IsOfLineAt at e → OverText told (λ t. IsFeedFaultAt (lines (drop at t)) at e)
+        → IsChecked told at (Err (fault_of_index 0 e))
+    checked_fault feed.Memory here known = tt
+    checked_fault feed.Read here known = tt
+    checked_fault (feed.BadLine offset) here known = rw here (behind _ (λ t e. (known t e).1))
+    checked_fault (feed.OutOfOrder offset) here known = absurd here
 
-      pub checked_falls : (to : ℕ) (m : Member) → IsNextLine t at to (Some m) → FallsAfter previous m
-          → EndsOutOfOrder t at
-      checked_falls to m next falls = let there = begins next.0 (lines (drop to t)) next.1 in grind arith
+-- ---- over a known text
 
-      pub checked_fault : (e : FeedFault) → IsFeedFaultAt (lines (drop at t)) at e
-          → IsChecked t (Err (fault_of_index 0 e))
-      checked_fault e known = grind (arith, begins)
+module _ (text : List ℕ) where
+  ends_at : (offset : ℕ) (P : List (List ℕ) → Type 0) (c : AreCheckedTo (Some text) offset P) (line : List ℕ)
+      (after : List (List ℕ)) → lines (drop offset text) ≡ line ∷ after → LineBeginsAt text offset c.before line
+  ends_at offset P c line after e = record {
+    after = after;
+    lines_are = (c.known text refl).0 ∙ ap (λ ls. c.before ++ ls) e;
+    offset_is = c.ends;
+  }
+
+  checked_text : (size : ℕ) (result : Result ℕ AnswerFault) → IsChecked (Some text) size result
+      → IsCheckedText text result
+  checked_text size (Ok number) (c, same) =
+      let known = c.known text refl in
+      let whole : lines text ≡ c.before = known.0 ∙ (ap (λ ls. c.before ++ ls) known.1 ∙ append-nil c.before) in
+      (c.members, subst (λ ls. IsRun LINE_LIMIT ls c.members) (sym whole) c.run, same)
+  checked_text size (Err (answer.BadLine i offset)) c =
+      let bad = (c.known text refl).1 in
+      (bad.0, (c.before, ends_at offset IsBadFirst c bad.0 bad.1 bad.2, c.members, c.run, bad.3))
+  checked_text size (Err (answer.OutOfOrder i offset)) c =
+      let behind = (c.checked.known text refl).1 in (
+        c.line,
+        c.member,
+        c.entry,
+        (
+          c.checked.before,
+          ends_at offset _ c.checked c.line behind.0 behind.1,
+          c.checked.members,
+          c.checked.run,
+          (c.previous, c.previous_is, c.falls),
+        ),
+      )
+  checked_text size (Err other) c = grind arith
+
+pub checked_is_text : CheckedIsText
+checked_is_text = checked_text

@@ -5,6 +5,7 @@ pub mod CheckLemmas
 pub mod ReachLemmas
 pub mod PagesReach
 pub mod ReplyLemmas
+pub mod FrontLemmas
 pub mod ComposeLemmas
 pub mod PageIndexes
 pub mod DropLemmas

@@ -5,6 +5,7 @@ pub mod PageWriting
 pub mod PagesWriting
 pub mod WriterView
 pub mod Checking
+pub mod CheckLaws
 pub mod Passes
 pub mod Answering
 pub mod IndexFaults
@@ -16,6 +17,8 @@ pub mod Paging
 pub mod QueryLaws
 pub mod MergeLaws
 pub mod OneText
+pub mod Fronts
+pub mod CountLaws
 pub mod PageLines
 pub mod NothingAsked
 pub mod Replies
@@ -46,6 +49,7 @@ pub use Rattle.page_core.specs.Rows
 pub use Rattle.merge_core.specs.Collections
 pub use Rattle.merge_core.specs.Counts
 pub use Rattle.merge_core.specs.Failures
+pub use Rattle.merge_core.specs.LineFaults
 pub use Rattle.merge_core.specs.Reached
 pub use Rattle.merge_core.specs.Runs
 pub use Rattle.merge_core.specs.SourceLines

@@ -1,5 +1,5 @@
 //! The checking of an index.
-ghost use Rattle.std.specs.Prelude.{◌≡◌, ◌↔◌, ◌+◌, ◌≤◌, ℕ, List, true, option_map, IfErr, Some};
+ghost use Rattle.std.specs.Prelude.{◌≡◌, ◌↔◌, ◌+◌, ◌≤◌, true, option_map, IfErr};
 ghost use Rattle.source_core.specs.Reads.{KeepsSource};
 ghost use Rattle.query_core.specs.AnswerCounts.{CountsSource};
 ghost use Rattle.query_core.specs.Checking.{FallsAfter, IsChecked, IsCheckFault};
@@ -28,7 +28,7 @@ fn falls_after(previous: &Option<Box<Line>>, line: &Line) -> bool
 /// Errors are `Memory`, `Read`, and for the first line at fault `BadLine` or `OutOfOrder`, all of index 0.
 pub fn check<S: Source>(alloc: Global, source: &mut S) -> Result<u64, AnswerFault>
     ensures kept { KeepsSource S.Source source.old source.new }
-    ensures checked { (text : List ℕ) → S.text source.old ≡ Some text → IsChecked text result }
+    ensures checked { IsChecked (S.text source.old) (S.extent source.old) result }
     ensures fault { IfErr result IsCheckFault }
     ensures failures { CountsSource result (S.failures source.old) (S.failures source.new) }
     // Each byte of the source is read at most once.

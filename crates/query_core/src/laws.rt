@@ -1,6 +1,11 @@
 //! Laws of the definitions that the contracts cite. These functions do nothing: each law is a
 //! contract.
 ghost use Rattle.std.specs.Prelude.{◌≡◌};
+ghost use Rattle.query_core.specs.CheckLaws.{CheckedIsText};
+ghost use Rattle.query_core.specs.CountLaws.{AnswerCountsAreOne, ServingCountsAreOne};
+ghost use Rattle.query_core.specs.CountLaws.{SourceCountIsOne};
+ghost use Rattle.query_core.specs.Fronts.{AnswerHasFront, MergeHasFront, PagesHaveFront};
+ghost use Rattle.query_core.specs.Fronts.{RepliesHaveFront};
 ghost use Rattle.query_core.specs.declared.merging.TheConstants.{SOURCES_LIMIT};
 ghost use Rattle.query_core.specs.Limits.{LINE_LIMIT, QUERY_LIMIT};
 ghost use Rattle.query_core.specs.MergeLaws.{KeptIsIndex, MergedIsIndex, MergesCommute};
@@ -141,6 +146,29 @@ pub fn merge_writes_one_text()
 #[tactic(auto, using(crate::proofs::ReplyLemmas::replies_one))]
 pub fn replies_over_indexes_are_one()
     ensures { RepliesAreOne }
+{}
+
+/// Of the same lines, and over an output whose bytes are known, a call that fails has written a front of what one that
+/// succeeds writes. Over indexes that holds of a conversation too.
+pub fn faults_leave_a_front()
+    ensures answer { AnswerHasFront }
+    ensures pages { PagesHaveFront }
+    ensures merge { MergeHasFront }
+    ensures serve { RepliesHaveFront }
+{}
+
+/// What a call answers decides every count of failures after it, but for the input of a conversation, which may be too long.
+pub fn answers_decide_counts()
+    ensures answer { AnswerCountsAreOne }
+    ensures check { SourceCountIsOne }
+    ensures serve { ServingCountsAreOne }
+{}
+
+/// What `check` says of a text that is known: it is an index of this number of lines, or the lines before the first one at
+/// fault are an index by themselves.
+#[tactic(auto, using(crate::proofs::CheckLemmas::checked_is_text))]
+pub fn checked_texts_are_indexes()
+    ensures { CheckedIsText }
 {}
 
 /// The name of a field, as pages write it, names the field in a query.

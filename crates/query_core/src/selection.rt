@@ -45,7 +45,7 @@ impl<'q> Selection<'q> {
             return false;
         }
         match self.from {
-            Some(place) => line.place().compare_place(&place).is_gt(),
+            Some(place) => line.compare_to(&place).is_gt(),
             None => true,
         }
     }

@@ -2,7 +2,7 @@
 use fixtures::{FIRST_OF_2016, Rows, index_text};
 use query_core::{FileSource, SliceSource, SystemFile};
 use std::alloc::{AllocError, Global};
-use std::fs::{self, File, Files};
+use std::fs::{self, File};
 use std::rt::Runtime;
 use std::test::Fail;
 
@@ -41,20 +41,20 @@ pub fn empty_sources(alloc: Global, count: usize) -> Result<Vec<SliceSource<'sta
 }
 
 /// Writes a text to a file, and returns a source over the file.
-pub fn file_of<R: Runtime>(
+pub fn file_of<R: Runtime<File = File>>(
     rt: &R,
     name: &str,
     text: &[u8],
-) -> Result<FileSource<SystemFile<<R as Files>::File>>, Fail> {
+) -> Result<FileSource<SystemFile<File>>, Fail> {
     fs::write(rt, name, text)?;
     Ok(FileSource::new(SystemFile(File::open(rt, name)?))?)
 }
 
 /// Returns sources over files that are newly written.
-pub fn files<R: Runtime + AllocGlobal>(
+pub fn files<R: Runtime<File = File> + AllocGlobal>(
     rt: &R,
     texts: &[Vec<u8>],
-) -> Result<Vec<FileSource<SystemFile<<R as Files>::File>>>, Fail> {
+) -> Result<Vec<FileSource<SystemFile<File>>>, Fail> {
     let mut sources = Vec::new(rt.alloc());
     for (number, text) in texts.iter().enumerate() {
         let name = format!(in rt.alloc(); "{number}.cdxj")?;

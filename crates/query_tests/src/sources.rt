@@ -7,7 +7,7 @@ use fixtures::{
     FALLING, FIRST_OF_2016, LETTERS, Refused, Rows, TORN, UNENDED_LETTERS, cut, index_text, joined,
     keyed_lines, padded,
 };
-use query_core::{AnswerFault, FileSource, SliceSource, Source};
+use query_core::{AnswerFault, FileSource, RememberingSource, SliceSource, Source};
 use source_core::{SearchFault, search};
 use std::alloc::Global;
 use std::fs;
@@ -151,6 +151,36 @@ fn the_search_for_the_last_of_100_000_lines_reads_13_times(rt: HostRuntime) -> R
     let found = search(rt.alloc(), &mut source, LAST)?;
     assert!(rt; text.len() == 17_900_000 && found.cursor.at() == 17_899_821);
     assert!(rt; found.probes > 20 && source.calls <= 13);
+    Ok(())
+}
+
+/// Returns `true` if the last of 100,000 lines is found.
+fn finds_last<S: Source>(alloc: Global, source: &mut S) -> Result<bool, SearchFault> {
+    let found = search(alloc, source, LAST)?;
+    Ok(found.cursor.at() == 17_899_821)
+}
+
+/// The first search reads 13 times. The next ones make its twelve steps without a read, and then read
+/// once: the fifteenth read fails.
+#[test]
+fn a_source_that_remembers_is_read_once_in_the_second_search(rt: HostRuntime) -> Result<(), Fail> {
+    let text = keyed_lines(rt.alloc(), 100_000)?;
+    let read = Fuse::new(SliceSource::new(&text), 8_192, 15);
+    let mut source = RememberingSource::new(rt.alloc(), read, 1_048_576);
+    assert!(rt; finds_last(rt.alloc(), &mut source)?);
+    assert!(rt; finds_last(rt.alloc(), &mut source)?);
+    assert!(rt; matches!(finds_last(rt.alloc(), &mut source), Err(SearchFault::Read)));
+    Ok(())
+}
+
+/// The second search fails at its second read.
+#[test]
+fn a_source_without_room_remembers_nothing(rt: HostRuntime) -> Result<(), Fail> {
+    let text = keyed_lines(rt.alloc(), 100_000)?;
+    let read = Fuse::new(SliceSource::new(&text), 8_192, 15);
+    let mut source = RememberingSource::new(rt.alloc(), read, 0);
+    assert!(rt; finds_last(rt.alloc(), &mut source)?);
+    assert!(rt; matches!(finds_last(rt.alloc(), &mut source), Err(SearchFault::Read)));
     Ok(())
 }
 

@@ -4,6 +4,7 @@ use crate::small_indexes::{APART, empty_sources, files, index_texts, slices};
 use fixtures::{FIRST_OF_2016, HOSTS, IMAGE, LETTER_ROWS, LETTERS, PAGE, Rows, rising_lines};
 use query_core::{AnswerFault, SliceSource, Source};
 use std::alloc::Global;
+use std::fs::File;
 use std::rt::Runtime;
 use std::test::Fail;
 
@@ -177,7 +178,10 @@ fn answers_from_memory(alloc: Global, case: &Case) -> Result<bool, Fail> {
     answers(alloc, &mut slices(alloc, &texts)?, case)
 }
 
-fn answers_from_files<R: Runtime + AllocGlobal>(rt: &R, case: &Case) -> Result<bool, Fail> {
+fn answers_from_files<R: Runtime<File = File> + AllocGlobal>(
+    rt: &R,
+    case: &Case,
+) -> Result<bool, Fail> {
     let texts = index_texts(rt.alloc(), case.indexes)?;
     answers(rt.alloc(), &mut files(rt, &texts)?, case)
 }

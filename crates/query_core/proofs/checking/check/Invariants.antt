@@ -1,4 +1,4 @@
-use Rattle.query_core.proofs.Words.{ℕ, ◌+◌, ◌-◌, ◌≡◌, ◌≤◌, List, Some, length, option_map}
+use Rattle.query_core.proofs.Words.{◌+◌, ◌-◌, ◌≡◌, ◌≤◌, option_map}
 use Rattle.source_core.specs.Cursors.{Stands, reach}
 use Rattle.query_core.proofs.CheckLemmas.{CheckedTo}
 use Rattle.query_core.proofs.checking.check.Given as goal
@@ -9,13 +9,10 @@ invariant-lines g l = record {
   extent : g.S.Source.extent l.source ≡ g.S.Source.extent l.fn.source;
   failures : g.S.Source.failures l.source ≡ g.S.Source.failures l.fn.source;
   stands : Stands (g.S.Source.text l.source) (g.S.Source.extent l.source) l.cursor;
-  start : l.cursor.start ≡ 0;
   gave : g.S.Source.gave l.source ≤ g.S.Source.gave l.fn.source + reach l.cursor;
   inside : reach l.cursor ≤ g.S.Source.extent l.fn.source;
   offset : l.offset ≡ l.cursor.at;
-  long : (t : List ℕ) → g.S.Source.text l.fn.source ≡ Some t → length t ≡ g.S.Source.extent l.fn.source;
-  told : (t : List ℕ) → g.S.Source.text l.fn.source ≡ Some t
-      → CheckedTo t l.cursor.at l.cursor.count (option_map (λ b. b.value) l.previous);
+  checked : CheckedTo (g.S.Source.text l.fn.source) l.cursor.at l.cursor.count (option_map (λ b. b.value) l.previous);
 }
 
 abbrev pub decreases-lines : goal.decreases-lines

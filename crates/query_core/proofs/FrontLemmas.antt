@@ -1,0 +1,48 @@
+-- A call that fails has written a front of what one that succeeds writes, and its answer decides the counts of failures.
+use Rattle.query_core.proofs.Words.{ℕ, ◌++◌, ◌≡◌, Appends, AppendsPrefix, List}
+use Rattle.query_core.proofs.Words.{Option, QUERY_LIMIT, Some, append_assoc, arith, collection, flat_map, flat_map-append}
+use Rattle.query_core.proofs.Words.{place_cmp_total, prefix_longer, reply_of, sym}
+use Rattle.devices.specs.Device.{Grows}
+use Rattle.page_core.proofs.PageLaws.{chain_one}
+use Rattle.query_core.specs.CountLaws.{AnswerCountsAreOne, ServingCountsAreOne, SourceCountIsOne}
+use Rattle.query_core.specs.Fronts.{AnswerHasFront, MergeHasFront, PagesHaveFront, RepliesHaveFront}
+use Rattle.query_core.proofs.ReplyLemmas.{replies_one}
+use Rattle.query_core.specs.Replies.{marked_reply}
+
+-- ---- fronts
+
+-- a front of a text was written, and all of it
+pub front_of : (old text : List ℕ) (part whole : Option (List ℕ)) → AppendsPrefix (Some old) part text
+    → Appends (Some old) whole text → Grows part whole
+front_of old text (Some bs) (Some cs) (rest, w) a = record { text = rest; grown = grind (arith, append_assoc) }
+front_of old text part whole w a = grind arith
+
+pub answer_front : AnswerHasFront
+answer_front q lines old part whole fault report p w = grind (arith, front_of)
+
+pub pages_front : PagesHaveFront
+pages_front q lines sizes old part whole fault number sized p w = grind (arith, chain_one, place_cmp_total, front_of)
+
+pub merge_front : MergeHasFront
+merge_front lines old part whole fault number p w = grind (arith, front_of)
+
+pub replies_front : RepliesHaveFront
+replies_front told input old part whole fault number (first, later, some, cut, each, p) (small, counted, all, every, w)
+    texts indexes known are =
+    let these = replies_one told first some each texts indexes known are in
+    let those = replies_one told _ all every texts indexes known are in
+    let rest = flat_map (marked_reply QUERY_LIMIT (reply_of QUERY_LIMIT (collection indexes))) later in
+    let longer = prefix_longer (Some old) part (flat_map (λ text. text) some) rest p in
+    let joined : flat_map (λ text. text) some ++ rest ≡ flat_map (λ text. text) all = grind (arith, flat_map-append) in
+    front_of old (flat_map (λ text. text) all) part whole (rw (sym joined) longer) w
+
+-- ---- counts
+
+pub answer_counts : AnswerCountsAreOne
+answer_counts result sources these those out this that a b = grind arith
+
+pub source_count : SourceCountIsOne
+source_count result source this that a b = grind arith
+
+pub serving_counts : ServingCountsAreOne
+serving_counts result sources these those out this that input here there left other a b = grind arith
