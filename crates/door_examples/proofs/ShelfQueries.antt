@@ -1,16 +1,17 @@
 -- What the tasks on indexes write of an index in memory, and a scan of an archive in memory.
 use native.Mathlib.Omega.{arith}
 use lib.Utf8.{encode}
-use Rattle.std.proofs.Common.{◌≡◌, ◌∙◌, ℕ, List, [], ◌∷◌, ◌++◌, Some, None, Result, Ok, Err, MatchResult, IfErr, codes, refl, sym, ap, subst, inl, inr}
+use Rattle.std.proofs.Common.{◌≡◌, ◌∙◌, ℕ, List, [], ◌∷◌, ◌++◌, Some, None, Result, Ok, Err, MatchResult, IfErr, codes, refl, sym, ap, append-nil, drop, subst, inl, inr}
 use Rattle.std.specs.Fmt.{digits}
 use Rattle.std.specs.List.{AllZip}
 use Rattle.std.specs.Str.{is_utf8, chars}
 use Rattle.std.specs.Str.Lossy.{utf8_lossy, utf8_valid_len}
 use Rattle.json.specs.Print.{escape_byte}
 use Rattle.percent_encoding.specs.Percent.{percent_decode}
+use Rattle.cdxj_places.specs.TextLines.{lines}
 use Rattle.cdxj_core.specs.declared.limit.TheConstants.{LINE_LIMIT}
 use Rattle.cdxj_core.specs.Fields.{field_named}
-use Rattle.cdxj_core.specs.Indexes.{IsIndex}
+use Rattle.cdxj_core.specs.Indexes.{IsIndex, IsRun}
 use Rattle.cdxj_core.specs.Members.{Member, entry_member}
 use Rattle.merge_core.specs.Collections.{collection}
 use Rattle.merge_core.specs.SourceLines.{HoldsOfLines, WritesLines}
@@ -144,19 +145,24 @@ module _ (before after : List ℕ) where
       (plain_of a_archive ∷ []) (1 ∷ []) orgs_text before (Some after) (Some _) n 1 (refl, tt) (scan tt) (one_is_scanned before)).0
   scanned one (Err f) is scan = grind arith
 
-  counted : HasOneList → (answer : Result ℕ AnswerFault) → IsChecked a_line answer
+  counted : HasOneList → (size : ℕ) (answer : Result ℕ AnswerFault) → IsChecked (Some a_line) size answer
       → MatchResult answer (λ count. WritesCount index_name count outcomes.Done (Some before) (Some after))
       (λ fault. (outcomes.Done ≡ outcomes.Answer fault) × (Some after ≡ Some before))
       → after ≡ before ++ codes "a.cdxj 1\n"
-  counted one (Ok n) (these, is, count) (inl (done, wrote)) =
-      let length_is : n ≡ 1 = count ∙ ap (λ l. Rattle.std.specs.Prelude.length l) (one LINE_LIMIT a_line these (member ∷ []) is line_is_index.read) in
+  counted one size (Ok n) (these, count) (inl (done, wrote)) =
+      let known = these.known a_line refl in
+      let whole : lines a_line ≡ these.before =
+      known.0 ∙ (ap (λ ls. these.before ++ ls) known.1 ∙ append-nil these.before) in
+      let is : IsIndex LINE_LIMIT a_line these.members =
+      subst (λ ls. IsRun LINE_LIMIT ls these.members) (sym whole) these.run in
+      let length_is : n ≡ 1 = count ∙ ap (λ l. Rattle.std.specs.Prelude.length l) (one LINE_LIMIT a_line these.members (member ∷ []) is line_is_index.read) in
       wrote ∙ ap (λ k. before ++ checked_line index_name k) length_is ∙ ap (λ t. before ++ t) check_text
-  counted one (Ok n) checked (inr failed) = grind arith
-  counted one (Err f) checked written = grind arith
+  counted one size (Ok n) checked (inr failed) = grind arith
+  counted one size (Err f) checked written = grind arith
 
   checked_one : (failed : Type 0) → HasOneList → ChecksOne (shelf failed).index_of (shelf failed).IndexFailed (Some before) index_name outcomes.Done (Some after)
       → after ≡ before ++ codes "a.cdxj 1\n"
-  checked_one failed one (inl c) = counted one c.answer (c.checked a_line refl) c.written
+  checked_one failed one (inl c) = counted one c.size c.answer c.checked c.written
   checked_one failed one (inr unopened) = grind arith
 
 module _ (failed : Type 0) (before after : List ℕ) (unchanged : Type 0) where

@@ -13,7 +13,8 @@ use index_core::{
     one_thing_stands_at_an_offset, plain_archive_is_its_records,
 };
 use query_core::{
-    AnswerFault, FileSource, FromRead, Output, pages_write_one_text, replies_over_indexes_are_one,
+    AnswerFault, FileSource, FromRead, Output, ReadAt, pages_write_one_text,
+    replies_over_indexes_are_one,
 };
 use scan_core::scan_writes_one_text;
 use std::alloc::Global;
@@ -22,20 +23,22 @@ use std::rt::Runtime;
 use tasks::{Console, Opener, Outcome, perform};
 use warc_core::laws::one_reading;
 
-/// A disk: the file of a name, once it is opened, is a stream of its bytes.
+/// A disk: the file of a name, once it is opened, is a stream of its bytes, and is read at any offset.
 pub trait Disk {
     ghost use Rattle.std.specs.Prelude.{◌≡◌, List, ℕ, Some, IfOk};
 
     /// An open file.
-    type File: Positioned + Drop;
+    type File: Positioned + ReadAt + Drop;
 
     /// The bytes of the file of a name.
     ghost bytes_of: { Self → List ℕ → List ℕ };
 
     /// Opens the file of this name at its start.
     fn open(&self, name: &str) -> Result<Self::File, Outcome>
-        ensures { IfOk result (λ file. Self.File.stream file
-            ≡ Some (record { position = 0; bytes = bytes_of self.now name.now })) };
+        ensures stream { IfOk result (λ file. Self.File.stream file
+            ≡ Some (record { position = 0; bytes = bytes_of self.now name.now })) }
+        ensures contents { IfOk result (λ file. Self.File.contents file
+            ≡ Some (bytes_of self.now name.now)) };
 }
 
 /// A disk with archives, one with indexes, and standard input.

@@ -6,7 +6,8 @@ use Rattle.cdxj_core.specs.{Entries.EntryValue, Entries.entry_place, Members.ent
 use Rattle.index_core.specs.FetchingLaws.{CapturesAreFetched}
 use Rattle.index_core.specs.Indexing.{in_places}
 use Rattle.query_core.proofs.ComposeLemmas.{in_list}
-use Rattle.scan_core.specs.{Archives.index_members, Laws.SelectedAreFetched}
+use Rattle.index_core.specs.PackedFetching.{PackedCapturesAreFetched}
+use Rattle.scan_core.specs.{Archives.index_members, Laws.PackedSelectedAreFetched, Laws.SelectedAreFetched}
 
 of_filter : (f : Member → Bool) (m : Member) (ms : List Member) → IsIn m (filter f ms) → IsIn m ms
 of_filter f m [] i = absurd i
@@ -33,3 +34,9 @@ pub selected_fetched : CapturesAreFetched → SelectedAreFetched
 selected_fetched fetched types limits limit name archive captures q m indexed i =
     let e = selected_is_capture captures q m i in
     (e.0, e.2, fetched types limits limit name archive captures e.0 indexed e.1)
+
+pub packed_selected_fetched : PackedCapturesAreFetched → PackedSelectedAreFetched
+packed_selected_fetched fetched types limits name archive captures q m indexed i =
+    let e = selected_is_capture captures q m i in
+    let there = fetched types limits name archive captures e.0 indexed e.1 in
+    (e.0, e.2, there.0, there.1, there.2)

@@ -7,15 +7,16 @@ use Rattle.std.proofs.Common.{Equal}
 use Rattle.cdxj_places.proofs.{PlaceOrder.same_place, RisingAlike.rising_referred}
 use Rattle.cdxj_core.specs.{Entries.EntryValue, Entries.entry_place, Members.entry_member}
 use Rattle.index_core.specs.Indexing.{AreNamed, HaveOwnPlaces, entries_text, in_places, index_text, is_among}
-use Rattle.query_core.proofs.{ComposeLemmas.rising_parts, PageChains.pages_one}
+use Rattle.query_core.proofs.{ComposeLemmas.rising_parts, PageChains.pages_one, FrontLemmas.pages_front}
 use Rattle.scan_core.specs.Archives.{AreCapturesOfEach, AreNewNames, HaveIndexes, HaveLines, index_members}
-use Rattle.scan_core.specs.{Captures.all_captures, Captures.captured_lines, Laws.ScanIsOne}
+use Rattle.scan_core.specs.{Captures.all_captures, Captures.captured_lines, Laws.ScanHasFront, Laws.ScanIsOne}
 use Rattle.warc_core.specs.Kind.{Kind}
 use Rattle.index_core.proofs.SoundLemmas.{among_last, among_more}
 use Rattle.scan_core.specs.Scanning.{IsAsked, Scanned, WritesKnownPages}
 use Rattle.archives.specs.State.{ToldArchive}
 use Rattle.index_core.specs.Laws.{OneIndexed}
 use Rattle.query_core.specs.declared.fault.AnswerFault.{AnswerFault}
+use Rattle.query_core.specs.declared.fault.AnswerFault.TheVariants as answer
 use Rattle.scan_core.specs.declared.fault.ScanFault.TheVariants.{Answer}
 
 -- ---- the collection of several indexes is that of all captures
@@ -107,3 +108,11 @@ scan_one one types names archives inputs sizes text old new new' number number' 
     let query : a.query ≡ b.query = grind arith in
     pages_one a.query (captured_lines a.captures) sizes old new new' number number' a.wrote
     (rw (query, same) b.wrote)
+
+pub scan_front : OneIndexed → ScanHasFront
+scan_front one types names archives inputs sizes text old part whole fault number known a b =
+    let same = one_captures one types names inputs archives a.captures b.captures known a.indexed.accepted
+    b.indexed.accepted in
+    let query : a.query ≡ b.query = grind arith in
+    pages_front a.query (captured_lines a.captures) sizes old part whole answer.Memory number b.asked.sizes
+    (λ _. a.wrote) (rw (query, same) b.wrote)

@@ -3,11 +3,14 @@ ghost use Rattle.std.specs.Prelude.{◌≡◌};
 ghost use Rattle.capture_core.specs.CaptureAnswer.{usual_limits};
 ghost use Rattle.warc_core.specs.declared.next.TheConstants.{HEAD_LIMIT};
 ghost use Rattle.scan_core.specs.Laws.{IndexIsMerge, OnlyMemoryIsWanting, RemovedIsDropped, ScanIsOne};
-ghost use Rattle.scan_core.specs.Laws.{SelectedAreFetched};
-ghost use Rattle.scan_core.specs.Laws.{ScanIsOverIndex};
+ghost use Rattle.scan_core.specs.Laws.{LaterAreUnread, PackedSelectedAreFetched};
+ghost use Rattle.scan_core.specs.Laws.{RefusedReadsNothing, ScanCountsAreOne, ScanHasFront};
+ghost use Rattle.scan_core.specs.Laws.{ScanIsOverIndex, SelectedAreFetched, WantIsNoDamage};
+ghost use Rattle.scan_core.specs.Laws.{WantIsNoFailure, WantIsNoRefusal};
 
 use index_core::{
     accepted_archive_is_not_refused, archive_has_one_list_of_captures, both_forms_of_get_agree,
+    packed_captures_stand_in_members,
 };
 
 /// A scan of archives that are accepted whole, with distinct names, good sizes and a good query, over inputs whose
@@ -17,6 +20,13 @@ pub fn accepted_archives_are_scanned()
 {
     accepted_archive_is_not_refused();
 }
+
+/// Neither damage of an archive nor a refused query nor a failed output is want of room.
+pub fn want_of_room_is_no_damage()
+    ensures damage { WantIsNoDamage }
+    ensures query { WantIsNoRefusal }
+    ensures answer { WantIsNoFailure }
+{}
 
 /// The index of several archives is the merge of the archives' indexes, byte for byte.
 #[tactic(auto, using(crate::proofs::ScanLemmas::index_is_merge))]
@@ -31,12 +41,15 @@ pub fn removed_archive_is_dropped()
     ensures { RemovedIsDropped }
 {}
 
-/// What a query selects of the index of a plain archive can be fetched: at the offset of the line stands a record of its
-/// length, and both forms of `get` write that record.
+/// What a query selects of the index of an archive can be fetched. At the offset of the line stands a record of a plain
+/// archive, or a member with a record of a compressed one, that is as long as the line says. Both forms of `get` write that
+/// record.
 pub fn selected_records_are_fetched()
-    ensures { SelectedAreFetched }
+    ensures plain { SelectedAreFetched }
+    ensures packed { PackedSelectedAreFetched }
 {
     both_forms_of_get_agree();
+    packed_captures_stand_in_members();
 }
 
 /// The pages of a scan are those of the index of all its archives: `scan` writes what `index` and `pages` write.
@@ -52,6 +65,27 @@ pub fn scan_writes_one_text()
 {
     archive_has_one_list_of_captures();
 }
+
+/// Over archives and an output whose bytes are known, a scan that fails after it has begun to write has written a front of
+/// what one that succeeds writes.
+pub fn faults_of_scans_leave_a_front()
+    ensures { ScanHasFront }
+{
+    archive_has_one_list_of_captures();
+}
+
+/// What a scan answers decides the count of failures of each input, and of the output.
+pub fn scans_decide_counts()
+    ensures { ScanCountsAreOne }
+{}
+
+/// A scan that is refused for its query, its sizes or the number of archives has read none of them. One that ends at an
+/// archive has read none of those behind it.
+#[tactic(auto, unfolding(crate::specs::Scanning::LeavesUnread))]
+pub fn refused_scans_leave_archives_unread()
+    ensures refused { RefusedReadsNothing }
+    ensures later { LaterAreUnread }
+{}
 
 /// The limits of archives, as numbers: the bytes of a head, of the line of a capture and of an HTTP head, and the fields of an
 /// HTTP head.

@@ -2,6 +2,7 @@ use Rattle.query_core.proofs.Words.{ℕ, ◌↔◌, ◌≡◌, Err, List, Ok, ar
 use Rattle.std.proofs.Common.{Result}
 use Rattle.index_core.specs.{Indexing.IsName, Indexing.is_among, declared.fault.IndexFault.IndexFault}
 use Rattle.index_core.specs.declared.fault.IndexFault.TheVariants.{BadName, DuplicateName}
+use Rattle.index_core.proofs.AddingLemmas.{by_heads_named}
 use Rattle.scan_core.specs.Archives.{IsNewName}
 use Rattle.scan_core.proofs.indexing.index_archive.Goals as goal
 
@@ -18,4 +19,7 @@ returns-in_err-add-clause-refused g c =
     rw (p.1, p.2, ← c.as_str.ensures.value) (grind arith)
 
 pub returns-clause-index : goal.returns-clause-index
-returns-clause-index g c = rw (← c.as_str.ensures.value) (grind (arith, is_new))
+returns-clause-index g c =
+    let adds = c.in_ok-add.ensures.adds in
+    let named = by_heads_named _ _ _ _ adds.2.1.0 adds.0 adds.2.1.1 in
+    rw (← c.as_str.ensures.value) (grind (arith, is_new))
