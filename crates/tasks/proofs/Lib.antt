@@ -6,3 +6,4 @@ pub mod StatusLemmas
 pub mod UntoldLemmas
 pub mod WriteCounts
 pub mod FailedNames
+pub mod AllOpenLemmas

@@ -19,7 +19,7 @@ use Rattle.outcomes.specs.declared.outcome.Outcome.{Outcome}
 use Rattle.outcomes.specs.declared.outcome.Outcome.TheVariants as outcomes
 use Rattle.query_core.specs.Conversations.{Converses, RepliedToTaken}
 use Rattle.query_core.specs.declared.fault.AnswerFault.{AnswerFault}
-use Rattle.scan_core.specs.Archives.{AreCapturesOf, AreCapturesOfEach, AreIndexed, IsFaultOfArchive, IsFirstFault}
+use Rattle.scan_core.specs.Archives.{AreCapturesOfEach, AreIndexed, IsFaultOfArchive, IsFirstFault}
 use Rattle.scan_core.specs.Archives.{nothing_told}
 use Rattle.scan_core.specs.Scanning.{IsScanFault, Scanned}
 use Rattle.scan_core.specs.declared.fault.ScanFault.{ScanFault}
@@ -87,6 +87,7 @@ module _ (archive : ToldArchive) where
     answer = w.answer;
     outcome_is = w.outcome_is;
     fetches = record_untold archive.bytes archive.packing len offset w.answer before after w.fetches;
+    one = w.one;
     unwritten = w.unwritten;
   }
 

@@ -1,5 +1,5 @@
 -- What is written of an index that was checked.
-use Rattle.std.specs.Prelude.{◌≡◌, ◌⊎◌, ℕ, List, ◌++◌, Option, Some, Result, MatchResult, IfErr, codes, decimal}
+use Rattle.std.specs.Prelude.{◌≡◌, ◌⊎◌, ℕ, List, ◌++◌, Option, Result, MatchResult, IfErr, codes, decimal}
 use Rattle.std.specs.Io.KnownBytes.{Appends}
 use Rattle.devices.specs.Device.{AppendsPrefix}
 use Rattle.query_core.specs.declared.fault.AnswerFault.{AnswerFault}
@@ -23,11 +23,13 @@ WritesCount name count outcome before after =
     ((outcome ≡ outcomes.Done) × Appends before after (checked_line name count))
     ⊎ ((outcome ≡ outcomes.Answer answers.Write) × AppendsPrefix before after (checked_line name count))
 
--- an index of this name was checked: its line is written where it is in order, and nothing where it isn't
+-- an index of this name and of some size was checked: its line is written where it is in order, and nothing where it
+-- isn't
 pub record ChecksIndex (name : List ℕ) (index : Option (List ℕ)) (outcome : Outcome) (before after : Option (List ℕ)) :
     Type 0 where
   pub answer : Result ℕ AnswerFault
-  pub checked : (text : List ℕ) → index ≡ Some text → IsChecked text answer
+  pub size : ℕ
+  pub checked : IsChecked index size answer
   pub fault : IfErr answer IsCheckFault
   pub written : MatchResult answer (λ count. WritesCount name count outcome before after)
       (λ fault. (outcome ≡ outcomes.Answer fault) × (after ≡ before))

@@ -2,7 +2,9 @@
 use Rattle.std.specs.Prelude.{◌≡◌, ℕ, List, Option, Result, IfErr}
 use Rattle.index_core.specs.declared.fault.IndexFault.{IndexFault}
 use Rattle.archives.specs.State.{ToldArchive}
+use Rattle.warc_core.specs.declared.next.TheConstants.{HEAD_LIMIT}
 use Rattle.index_core.specs.FetchingIn.{FetchesIn, IsUnwrittenBy}
+use Rattle.index_core.specs.OneRecord.{WritesOneRecord}
 use Rattle.outcomes.specs.declared.outcome.Outcome.{Outcome}
 use Rattle.outcomes.specs.Outcome.{outcome_of}
 
@@ -12,4 +14,5 @@ pub record WritesRecord (len : Option ℕ) (offset : ℕ) (archive : ToldArchive
   pub answer : Result ℕ IndexFault
   pub outcome_is : outcome ≡ outcome_of answer
   pub fetches : FetchesIn archive.packing len offset archive.bytes answer before after
+  pub one : WritesOneRecord HEAD_LIMIT answer before after
   pub unwritten : IfErr answer (λ fault. IsUnwrittenBy archive.packing len offset fault → unchanged)

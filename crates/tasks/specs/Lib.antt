@@ -11,3 +11,4 @@ pub mod Reports
 pub mod Scanning
 pub mod Buffers
 pub mod Running
+pub mod OpeningLaws

@@ -5,7 +5,7 @@ ghost use Rattle.tasks.specs.Opening.{OpensFirst, AreUnopenedIndexes};
 ghost use Rattle.tasks.specs.Queries.{AnswersLines};
 ghost use Rattle.tasks.specs.Writes.{CountsWrites};
 
-use crate::opening::{Opener, open_indexes};
+use crate::opening::{Opener, open_remembering};
 use outcomes::{Console, Outcome, answered_outcome};
 use query_core::serve;
 use std::rt::Runtime;
@@ -27,7 +27,7 @@ pub fn serve_all<R: Runtime + AllocGlobal, F: Opener, I: Input, O: Output>(
         (O.written out.old) (O.written out.new) (out.new ≡ out.old) result) }
     ensures writes { CountsWrites result (O.failures out.old) (O.failures out.new) }
 {
-    match open_indexes(console.alloc(), files, names) {
+    match open_remembering(console.alloc(), files, names) {
         Ok(mut indexes) => answered_outcome(
             console,
             names,

@@ -3,6 +3,8 @@ ghost use Rattle.std.specs.Prelude.{◌≡◌, IfErr, IfOk, MatchResult};
 ghost use Rattle.index_core.specs.Counting.{CountsIndexWrite};
 ghost use Rattle.archives.specs.State.{IsUnread, told_of};
 ghost use Rattle.index_core.specs.FetchingIn.{FetchesIn, IsUnwrittenBy};
+ghost use Rattle.index_core.specs.OneRecord.{WritesOneRecord};
+ghost use Rattle.warc_core.specs.declared.next.TheConstants.{HEAD_LIMIT};
 ghost use Rattle.tasks.specs.Fetching.{WritesRecord};
 ghost use Rattle.tasks.specs.Opening.{IsUnopened, OpensFirst, WithTold};
 ghost use Rattle.tasks.specs.Writes.{CountsWrites};
@@ -69,6 +71,7 @@ fn get_record<A: Fetch, O: Output>(
     requires { IsUnread (A.state archive.old) }
     ensures fetches { FetchesIn (A.state archive.old).packing length offset
         (A.state archive.old).ahead result (O.written out.old) (O.written out.new) }
+    ensures record { WritesOneRecord HEAD_LIMIT result (O.written out.old) (O.written out.new) }
     ensures unwritten { IfErr result (λ fault. IsUnwrittenBy (A.state archive.old).packing length
         offset fault → out.new ≡ out.old) }
     ensures writes { CountsIndexWrite result (O.failures out.old) (O.failures out.new) }

@@ -7,7 +7,7 @@ ghost use Rattle.tasks.specs.Opening.{AreUnopenedIndexes, OpensAs};
 
 use index_core::{AnyArchive, Fetch, PlainArchive, open};
 use outcomes::Outcome;
-use query_core::{AnswerFault, Source};
+use query_core::{AnswerFault, RememberingSource, Source};
 use std::alloc::Global;
 use warc_core::Input;
 
@@ -97,6 +97,34 @@ pub fn open_indexes<F: Opener>(
     for name in names {
         let index = files.open_index(name)?;
         if indexes.push(index).is_err() {
+            return Err(Outcome::Answer(AnswerFault::Memory));
+        }
+    }
+    Ok(indexes)
+}
+
+/// The bytes that are remembered of all indexes of a conversation together.
+const REMEMBERED: usize = 8_388_608;
+
+/// Opens the indexes of these names so, for many searches: each remembers the lines at which their first steps look.
+pub fn open_remembering<F: Opener>(
+    alloc: Global,
+    files: &F,
+    names: &[String],
+) -> Result<Vec<RememberingSource<F::Index>>, Outcome>
+    ensures { MatchResult result
+        (λ indexes.
+        map (λ index. index.text) indexes.items ≡ map (F.index_bytes files.now) (texts names.now))
+        (AreUnopenedIndexes (F.index_failed files.now) (texts names.now)) }
+{
+    let room = REMEMBERED / names.len().max(1);
+    let mut indexes = Vec::new(alloc);
+    for name in names {
+        let index = files.open_index(name)?;
+        if indexes
+            .push(RememberingSource::new(alloc, index, room))
+            .is_err()
+        {
             return Err(Outcome::Answer(AnswerFault::Memory));
         }
     }

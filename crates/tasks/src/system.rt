@@ -27,16 +27,16 @@ const OUTPUT_ROOM: usize = 65_536;
 const ARGUMENT_ROOM: usize = 4_096;
 
 /// Runs `warcdx` with the arguments of the system, over its files and standard output. Returns the exit status.
-pub fn run_warcdx<R: Runtime + AllocGlobal>(rt: &R, input: StandardInput) -> u8 {
+pub fn run_warcdx<R: Runtime<File = File> + AllocGlobal>(rt: &R, input: StandardInput) -> u8 {
     run::<R, PlainArchive<SystemInput<R>>>(&Console::new(rt, Program::Warcdx), input)
 }
 
 /// Runs `warcdx-gz` so. It opens archives of either form.
-pub fn run_warcdx_gz<R: Runtime + AllocGlobal>(rt: &R, input: StandardInput) -> u8 {
+pub fn run_warcdx_gz<R: Runtime<File = File> + AllocGlobal>(rt: &R, input: StandardInput) -> u8 {
     run::<R, AnyArchive<SystemInput<R>>>(&Console::new(rt, Program::WarcdxGz), input)
 }
 
-fn run<R: Runtime + AllocGlobal, A: ArchiveOver<SystemInput<R>>>(
+fn run<R: Runtime<File = File> + AllocGlobal, A: ArchiveOver<SystemInput<R>>>(
     console: &Console<R>,
     input: StandardInput,
 ) -> u8 {
@@ -50,7 +50,7 @@ fn run<R: Runtime + AllocGlobal, A: ArchiveOver<SystemInput<R>>>(
     }
 }
 
-fn run_words<R: Runtime + AllocGlobal, A: ArchiveOver<SystemInput<R>>>(
+fn run_words<R: Runtime<File = File> + AllocGlobal, A: ArchiveOver<SystemInput<R>>>(
     console: &Console<R>,
     words: &[String],
     input: StandardInput,
@@ -119,10 +119,11 @@ impl<'a, R, A> System<'a, R, A> {
     }
 }
 
-impl<R: Runtime + AllocGlobal, A: ArchiveOver<SystemInput<R>>> Opener for System<'_, R, A> {
+impl<R: Runtime<File = File> + AllocGlobal, A: ArchiveOver<SystemInput<R>>> Opener
+    for System<'_, R, A> {
     type Archive = A;
 
-    type Index = FileSource<SystemFile<<R as Files>::File>>;
+    type Index = FileSource<SystemFile<File>>;
 
     type Lines = FromRead<<R as io::Input>::Reader>;
 
