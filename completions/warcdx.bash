@@ -35,6 +35,7 @@ _warcdx_words() { # ENDING..
         fi
         return
     fi
+    if [[ $command == @(query|pages|scan) && ${COMP_LINE:0:COMP_POINT} == *[=:]"$word" ]]; then return; fi # in a query, which bash cuts there
     case $command:$operand in
         list:* | verify:* | index:* | get:2) _warcdx_files "$@" ;;
         query:1 | pages:2 | scan:2) _warcdx_query ;;

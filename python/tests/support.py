@@ -82,6 +82,12 @@ class Case(unittest.TestCase):
                 self.assertEqual(3, done.returncode, (arguments, done.stderr))
                 self.assertRegex(done.stderr, rf"\A{said}\Z")
 
+    def wait_for(self, condition: Callable[[], bool]) -> None:
+        end = time.monotonic() + WAIT
+        while not condition():
+            self.assertLess(time.monotonic(), end)
+            time.sleep(0.01)
+
     def open(self, *paths: pathlib.Path, **arguments: Any) -> Index:
         index = Index(paths, **{"program": PROGRAM, **arguments})
         self.addCleanup(index.close)
@@ -98,6 +104,15 @@ class Case(unittest.TestCase):
 def processes_of(index: Index) -> list[int]:
     """Returns the process IDs of an index that is idle."""
     return [serve._process.pid for serve in list(index._idle.queue) if serve._process is not None]
+
+
+def is_running(number: int) -> bool:
+    """Returns whether a process runs: it exists, and isn't one that has ended and whose status isn't read (Linux)."""
+    try:
+        state = pathlib.Path(f"/proc/{number}/stat").read_text().rpartition(") ")[2][:1]
+    except (FileNotFoundError, ProcessLookupError):
+        return False
+    return state != "Z"
 
 
 def children_of(number: int) -> list[int]:

@@ -4,14 +4,18 @@ import hashlib
 import io
 import os
 import pickle
+import signal
 import subprocess
 import unittest
 import zlib
+from unittest import mock
 
-from warcdx import Archive, Listed, ProgramEnded, Record, Unreadable, Verified, faults, payload
+from warcdx import Archive, Listed, ProgramEnded, Record, Unreadable, Verified, faults, open_archive, payload
 from warcdx.record import RecordStream
+from warcdx.usual_records import ArchiveFile
+from warcdx.verifying import check_archive
 
-from .support import PROGRAM, SAMPLES, Case
+from .support import PROGRAM, SAMPLES, WAIT, Case, resource
 
 HEAD = b"WARC/1.0\r\nWARC-Type: response\r\nX: a\r\n  b\r\nContent-Type: application/http; msgtype=response\r\n\r\n"
 
@@ -58,6 +62,10 @@ class Archives(Case):
         self.raises(faults.CannotOpen, Archive(self.folder / "nosuch", program=PROGRAM).get, 0)
         self.raises(faults.Read, list, Archive(self.folder, program=PROGRAM).list())
         self.raises(faults.Version, list, Archive(self.put("x" * 20), program=PROGRAM).verify())
+        unsized = Archive("/proc/self/maps", program=PROGRAM)  # of which the system gives no size
+        for records in (iter(unsized), check_archive(unsized), unsized.streams()):
+            self.raises(faults.Version, next, records)
+        self.assertEqual([], list(Archive(self.put(""), program=PROGRAM)))
         self.assertEqual([], list(Archive(self.put("", "empty"), program=PROGRAM).list()))
         self.assertEqual(2, self.raises(ProgramEnded, list, Archive(os.fsdecode(b"\xff"), program=PROGRAM).list()).status)
 
@@ -117,6 +125,19 @@ class Records(Case):
         self.assertEqual("Record((('WARC-Type', 'resource'), ('WARC-Target-URI', '<http://a/>')), <60,000,000 bytes>)", repr(record))
         self.assertEqual(("http://a/", record.fields), (record.url, record.headers))
         self.assertIsNone(Record((), b"").url)
+
+    def test_a_pipe_that_takes_the_place_of_an_archive(self) -> None:
+        """It does so after its name was looked at."""
+        path = self.folder / "a.warc"
+        path.write_bytes(resource(1))
+        found = os.stat(path)
+        path.unlink()
+        os.mkfifo(path)
+        signal.alarm(WAIT)
+        self.addCleanup(signal.alarm, 0)
+        with mock.patch.object(os, "stat", return_value=found):
+            open_archive(path, program=PROGRAM)
+            self.assertRaises(OSError, ArchiveFile, str(path))
 
     def test_a_record_in_pieces_is_read_once(self) -> None:
         def opened() -> RecordStream:

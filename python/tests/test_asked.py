@@ -1,11 +1,15 @@
 """What the parameters of a call select, and what is said of those that there aren't."""
+import copy
 import datetime
 import inspect
+import io
 import pickle
 import unittest
 
-from warcdx import Collection, Index, Page, faults, open_archive, refusals
+from warcdx import Collection, Index, Limits, Page, ProgramMissing, Record, faults, open_archive, payload, refusals
 from warcdx.asked import Asked
+from warcdx.merging import merge
+from warcdx.program import operands
 from warcdx.stamps import stamp_of
 
 from .support import ALL, LINE, PROGRAM, Case, lines
@@ -107,7 +111,12 @@ class Parameters(Case):
         for wanted, call in (
             ("url is a text, and not b'a'", lambda: index.captures(b"a")),  # type: ignore[arg-type]
             ("query is a text, and not {}", lambda: index.captures(query={})),  # type: ignore[arg-type]
-            ("limit has to be a text, or a list of texts, and not 2.0", lambda: index.captures(limit=2.0)),  # type: ignore[arg-type]
+            ("limit is a number, and not 2.0", lambda: index.captures(limit=2.0)),  # type: ignore[arg-type]
+            ("fields is a text, or a list of texts, and not 5", lambda: index.columns(5)),  # type: ignore[arg-type]
+            ("a field is a text, and not 5", lambda: index.columns([5])),  # type: ignore[list-item]
+            ("page_size is a number, and not 'x'", lambda: list(index.captures(page_size="x"))),  # type: ignore[arg-type]
+            ("query is a text, and not None", lambda: index.text(None)),  # type: ignore[arg-type]
+            ("query is a text, and not b'key='", lambda: list(index.stream(b"key="))),  # type: ignore[arg-type]
             ("filter has to be a text, or a list of texts, and not None", lambda: index.captures(filter=[None])),  # type: ignore[list-item]
         ):
             self.assertEqual(wanted, str(self.raises(TypeError, call)))
@@ -116,6 +125,60 @@ class Parameters(Case):
         self.assertEqual((True, False), ("http://example.com/0000001" in index, "http://example.com/*" in index))
         self.raises(TypeError, lambda: 5 in index)
         self.assertEqual(f"Index(('{self.folder}/index',))", repr(index))
+
+    def test_numbers_may_be_those_of_another_module(self) -> None:
+        class Number:
+            def __index__(self) -> int:
+                return 2
+
+        index = Index(self.put(lines(5)), program=PROGRAM, processes=Number(), most=1 << 20)  # type: ignore[arg-type]
+        with index:
+            self.assertEqual(2, index.count(limit=Number()))  # type: ignore[arg-type]
+            self.assertEqual([2, 2, 1], list(map(len, index.pages(page_size=Number()))))  # type: ignore[arg-type]
+            self.assertEqual(5, len(list(index.captures(page_size=None))))
+            self.assertEqual(5, len(list(index.rows("timestamp, offset"))))
+
+    def test_texts_that_no_bytes_are_are_refused(self) -> None:
+        index = self.open(self.put(lines(2)))
+        for call in (lambda: index.count("a\ud800"), lambda: index.text("url=a\ud800"), lambda: index.count(filter="mimetype:\ud800")):
+            self.raises(refusals.NotText, call)
+        far = datetime.datetime.max.replace(tzinfo=datetime.timezone(datetime.timedelta(hours=-14)))
+        self.raises(refusals.BadStamp, index.count, since=far)
+
+    def test_what_is_no_path_is_named(self) -> None:
+        index, file = self.put(lines(2)), io.StringIO("nosuch\n")
+        for call in (
+            lambda paths: Index(paths, program=PROGRAM), lambda paths: Index([index, paths], program=PROGRAM),
+            lambda paths: open_archive(paths, program=PROGRAM), lambda paths: merge(paths, io.BytesIO(), program=PROGRAM),
+            lambda paths: operands(paths) if paths is None else Collection(index, paths, program=PROGRAM),
+        ):  # fmt: skip
+            for paths in (5, b"index", file, None):
+                self.assertIn(f"a path is a text or a Path, and not {paths!r:.60}", str(self.raises(TypeError, call, paths)))
+        self.assertIn("program is a text or a Path", str(self.raises(TypeError, Index, index, program=None)))
+        self.raises(ProgramMissing, Index, index, program=self.folder / "nosuch")
+        for paths in (index, str(index), {index}, (each for each in [index])):
+            with Collection(paths, program=PROGRAM) as collection:  # type: ignore[arg-type]
+                self.assertEqual(2, collection.index.count())
+        merge(index, found := io.BytesIO(), program=PROGRAM)
+        self.assertEqual(lines(2).encode(), found.getvalue())
+
+    def test_what_is_no_capture_no_record_and_no_output_is_named(self) -> None:
+        index = self.put(lines(2))
+        with Collection(index, program=PROGRAM) as collection, Index(index, program=PROGRAM) as other:
+            for wanted, call in (
+                ("a capture is what `captures` gives, and not 'http://a'", lambda: collection.record("http://a")),  # type: ignore[arg-type]
+                ("a capture is what `captures` gives, and not None", lambda: collection.stream(None)),  # type: ignore[arg-type]
+                ("a file name is a text, and not 5", lambda: collection.archive(5)),  # type: ignore[arg-type]
+                ("a record is a Record, or its bytes, and not 'x'", lambda: payload("x")),  # type: ignore[arg-type]
+                ("the name of a field is a text, and not b'a'", lambda: Record((), b"").field(b"a")),  # type: ignore[arg-type]
+                ("limits is a Limits, such as Limits(size=10_000_000), and not 5", lambda: Record((), b"").payload(5)),  # type: ignore[arg-type]
+                ("size is a number, and not 'x'", lambda: Limits("x")),  # type: ignore[arg-type]
+                ("seconds is a number, and not '5'", lambda: Index(index, program=PROGRAM, seconds="5")),  # type: ignore[arg-type]
+                ("offset is a number, and not 5.0", lambda: open_archive(index, program=PROGRAM).record(5.0)),  # type: ignore[arg-type]
+                ("the output is a file that is open to write bytes, and not 'a'", lambda: merge(index, "a", program=PROGRAM)),  # type: ignore[arg-type]
+                ("an Index isn't copied, or sent to another process; open another one there", lambda: copy.copy(other)),
+            ):  # fmt: skip
+                self.assertEqual(wanted, str(self.raises(TypeError, call)))
 
     def test_signatures_have_each_parameter_with_its_type(self) -> None:
         for call in CALLS:

@@ -70,6 +70,11 @@ class To(Cdx):
         found, _, status = self.run_command("to", text=LINE.replace(b'"200"', b"-0"))
         self.assertEqual(("-", 0), (found.decode().splitlines()[1].split(" ")[4], status))
 
+    def test_blanks_may_follow_the_members(self) -> None:
+        """So they do in an index with the line ends of Windows, which the program reads."""
+        for end in (b"\r\n", b" \t\r\n", b"\r"):
+            self.assertEqual((HEADER + ROW, "", 0), self.run_command("to", text=LINE.removesuffix(b"\n") + end))
+
     def test_several_indexes_are_merged(self) -> None:
         first, second = line("a", offset="1"), line("c", offset="3")
         self.put_bytes(first + second, "1")
@@ -91,7 +96,7 @@ class To(Cdx):
         for words, wanted in (
             ("pipe", (HEADER + ROW, "", 0)),
             ("pipe index pipe", (HEADER + ROW, "", 0)),
-            ("pipe nosuch", (b"", "warcdx-cdx: nosuch: cannot open: No such file or directory\n", 3)),
+            ("pipe nosuch", (b"", "warcdx-cdx: nosuch: cannot open (No such file or directory)\n", 3)),
         ):
             shell = f'cat index > pipe & exec "$0" "$1" --program "$2" to {words}'
             command = ("sh", "-c", shell, sys.executable, str(COMMAND), os.path.abspath(PROGRAM))
@@ -119,7 +124,7 @@ class To(Cdx):
                 found, said, status = self.run_command("to", *arguments, text=b"" if arguments else text)
                 self.assertEqual((f"warcdx-cdx: {name}: {wanted}\n", 1), (said, status))
                 self.assertTrue((HEADER + ROW).startswith(found))
-        wanted = b"", "warcdx-cdx: nosuch: cannot open: No such file or directory\n", 3
+        wanted = b"", "warcdx-cdx: nosuch: cannot open (No such file or directory)\n", 3
         self.assertEqual(wanted, self.run_command("to", "nosuch"))
 
 
@@ -222,8 +227,8 @@ class From(Cdx):
 
     def test_files_that_can_not_be_read(self) -> None:
         found, said, status = self.run_command("from", "nosuch", ".", self.put_bytes(ROW, "good"))
-        wanted = ["warcdx-cdx: nosuch: cannot open: No such file or directory"]
-        wanted.append("warcdx-cdx: .: cannot open: Is a directory")
+        wanted = ["warcdx-cdx: nosuch: cannot open (No such file or directory)"]
+        wanted.append("warcdx-cdx: .: cannot open (Is a directory)")
         self.assertEqual((LINE, wanted, 3), (found, said.splitlines(), status))
 
 

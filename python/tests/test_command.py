@@ -5,6 +5,7 @@ import shutil
 import signal
 import subprocess
 import sys
+import tempfile
 import unittest
 import unittest.mock
 import warcdx_start
@@ -104,6 +105,25 @@ class Signals(Case):
         status, lines, error = self.ended(UNBEGUN)
         self.assertEqual((-signal.SIGTERM, [], b""), (status, lines, error))
         self.assertEqual([], list(self.folder.iterdir()))
+
+
+class Scripts(unittest.TestCase):
+    def test_they_differ_in_the_name_of_the_command_alone(self) -> None:
+        """Each finds the package by itself, so what it does for that stands in each."""
+        texts = set[str]()
+        for path in (pathlib.Path(__file__).resolve().parents[1] / "bin").iterdir():
+            name = path.name.removeprefix("warcdx-")
+            texts.add(path.read_text().replace(path.name, "COMMAND").replace(f"warcdx.{name}_command", "MODULE"))
+        self.assertEqual(1, len(texts))
+
+    def test_a_python_without_the_package_is_named(self) -> None:
+        """The one of a package for Debian is called by its path, and so by any Python."""
+        with tempfile.TemporaryDirectory() as folder:
+            script = shutil.copy(pathlib.Path(__file__).resolve().parents[1] / "bin/warcdx-verify", folder)
+            done = subprocess.run(
+                (sys.executable, "-I", "-S", script), cwd=folder, stdout=subprocess.PIPE, stderr=subprocess.STDOUT, text=True
+            )
+        self.assertEqual((3, f"warcdx-verify: {sys.executable} has no package warcdx\n"), (done.returncode, done.stdout))
 
 
 class ByteCode(Case):

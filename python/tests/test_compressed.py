@@ -8,6 +8,7 @@ import itertools
 import json
 import os
 import pathlib
+import shutil
 import subprocess
 import sys
 import unittest
@@ -345,11 +346,21 @@ class Programs(Case):
         with unittest.mock.patch.dict(os.environ, PATH=f"{other.parent}:{os.environ['PATH']}"):
             self.assertEqual(str(other), find_packed_program(str(plain)))
 
+    def test_a_release_has_it_in_its_own_folder(self) -> None:
+        shutil.copytree(FOLDER / "warcdx", self.folder / "share/warcdx/python/warcdx")
+        own, other = self.program("bin/warcdx", "warcdx 0.1.0: x"), self.program("other/warcdx", "warcdx 0.1.0: x")
+        code = "from warcdx.program import find_program; print(find_program('warcdx'))"
+        for path, wanted in (("/nosuch", own), (str(other.parent), other)):
+            command = (sys.executable, "-S", "-c", code)
+            folder = self.folder / "share/warcdx/python"
+            found = subprocess.run(command, env={"PATH": path}, cwd=folder, stdout=subprocess.PIPE, text=True, check=True)
+            self.assertEqual(f"{wanted}\n", found.stdout)
+
     def test_it_may_be_missing_or_another_program(self) -> None:
         plain = self.program("one/warcdx", "warcdx 0.1.0: x")
         with unittest.mock.patch.dict(os.environ, PATH=str(self.folder)):
             error = self.raises(ProgramMissing, find_packed_program, str(plain))
-        self.assertEqual("warcdx-gz: no such program", str(error))
+        self.assertEqual("warcdx-gz: no such program on the PATH", str(error))
         beside = self.program("one/warcdx-gz", "usage: warcdx-gz")
         error = self.raises(ProgramMissing, find_packed_program, str(plain))
         self.assertEqual(f"{beside}: not the program warcdx", str(error))

@@ -186,6 +186,32 @@ class Fetching(Case):
         self.assertEqual(sorted(names), sorted(os.listdir(self.folder / "all")))
         self.assertEqual(3, self.fetch("--all", "-o", "all", "example.com/*")[0])
 
+    def test_captures_that_can_not_be_read_keep_no_others_from_being_written(self) -> None:
+        """Their archives are a pipe that nobody writes, and a file that can't be read, as on a disk that is at fault."""
+        os.mkfifo(self.folder / "pipe.warc")
+        (self.folder / "rotten.warc").symlink_to("/proc/self/mem")
+        index = self.folder / "a.cdxj"
+        lines = [line for line in index.read_text().splitlines() if line.startswith("com,example)/ ")]
+        names = ["pipe.warc", "rotten.warc", "nosuch.warc"]
+        index.write_text("".join(f"{line.replace('a.warc', name)}\n" for line in lines for name in (*names, "a.warc")))
+        whys = [
+            f"{self.folder}/pipe.warc: a pipe can be read only once, by list, verify or index; save it to a file",
+            f"{self.folder}/rotten.warc: Read",
+            f"{self.folder}/nosuch.warc: cannot open (No such file or directory)",
+        ]
+        said = [f"warcdx-fetch: {time} {URL}: {why}" for time in ("20160919172024", "20180102030405") for why in whys]
+        for output in ("all", "all.warc.gz"):
+            status, _, error = self.fetch("--all", "-o", output, URL)
+            self.assertEqual((3, sorted(said)), (status, sorted(error.splitlines())))
+        self.assertEqual([b"new!\n", b"old"], sorted(path.read_bytes() for path in (self.folder / "all").iterdir()))
+        self.assertEqual(2, len(list(open_archive(self.folder / "all.warc.gz", program=PROGRAM))))
+
+    def test_an_index_that_is_no_file(self) -> None:
+        os.mkfifo(self.folder / "pipe")
+        why = "Read: An index is a file, because it is searched: write what a pipe has to a file first."
+        self.assertEqual((3, b"", f"warcdx-fetch: pipe: {why}\n"), self.fetch(URL, index="pipe"))
+        self.assertEqual((3, b"", "warcdx-fetch: ./-: cannot open (No such file or directory)\n"), self.fetch(URL, index="./-"))
+
     def test_nothing_is_made_for_a_query_without_captures(self) -> None:
         for query, wanted in (
             ("example.com/x*", "no index has a capture of it; docs/FAQ.md has the usual causes"),

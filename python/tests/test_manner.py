@@ -59,6 +59,39 @@ class Manner(Runs):
                 self.assertEqual((2, ""), (status, found))
                 self.assertRegex(said, rf"\A{path.name}: error: .*; '{path.name} --help' has the arguments\n\Z")
 
+    def test_an_empty_name_is_a_usage_error(self) -> None:
+        """So is one of a variable that isn't set. It would be the name of this folder."""
+        for name, *words in (
+            ("update", "", "all.cdxj.d"), ("update", ".", ""), ("verify", ""), ("verify", "--resume", "", "a.warc"),
+            ("fetch", "--index", "", "http://example.com/"), ("fetch", "--index", "a.cdxj", "--archives", "", "http://example.com/"),
+            ("cdx", "to", ""), ("cdx", "from", "-o", "", "a.cdx"),
+        ):  # fmt: skip
+            status, found, said = self.run_command(sys.executable, PYTHON / f"bin/warcdx-{name}", *words)
+            self.assertEqual((2, ""), (status, found))
+            self.assertIn(": the name is empty; ", said)
+        self.assertEqual([], list(self.folder.iterdir()))
+
+    def test_a_standard_stream_is_no_index_and_no_notes(self) -> None:
+        for name, *words in (
+            ("update", ".", "-"), ("update", "-", "all.cdxj.d"), ("verify", "--resume", "-", "a.warc"),
+            ("fetch", "--index", "-", "http://example.com/"), ("fetch", "--index=a.cdxj", "--archives=-", "http://example.com/"),
+        ):  # fmt: skip
+            status, found, said = self.run_command(sys.executable, PYTHON / f"bin/warcdx-{name}", *words)
+            self.assertEqual((2, ""), (status, found))
+            self.assertIn(": a standard stream can't be used here; a file of this name is ./-; ", said)
+        self.assertEqual([], list(self.folder.iterdir()))
+
+    def test_a_name_that_is_a_negative_number_is_no_file(self) -> None:
+        """It would come behind the other files."""
+        for name, *words in (
+            ("update", "-1", "all.cdxj.d"),
+            ("verify", "-1", "a.warc"),
+            ("cdx", "to", "-.5", "a.cdxj"),
+            ("fetch", "--index=a", "-1"),
+        ):
+            status, found, said = self.run_command(sys.executable, PYTHON / f"bin/warcdx-{name}", *words)
+            self.assertEqual((2, ""), (status, found), said)
+
     def test_options_stand_before_or_behind_files(self) -> None:
         archive, names = SAMPLES / "wget.warc", [f"--program={PROGRAM}", "--quiet"]
         command = (sys.executable, PYTHON / "bin/warcdx-verify")
@@ -93,8 +126,8 @@ class Messages(Runs):
             (("verify", "a.warc.gz"), "a.warc.gz: Each record has to be a member of gzip of its own: "),
             (("verify", index), f"{index}: It seems to be an index: warcdx query reads indexes."),
             (("cdx", "to", "a.warc"), "a.warc: BadLine 0: It is a WARC file: "),
-            (("cdx", "from", "a.cdx.gz"), "a.cdx.gz: line 1: it has 1 column, and not 11 or 9; a header names other columns: It is compressed by gzip: "),
-            (("cdx", "from", index), "a header names other columns: It is an index: warcdx-cdx to reads indexes."),
+            (("cdx", "from", "a.cdx.gz"), "a.cdx.gz: It is compressed by gzip: "),
+            (("cdx", "from", index), f"{index}: It is an index: warcdx-cdx to reads indexes."),
             (("fetch", "--index", "a.warc", "http://example.com/"), "a.warc: BadLine 0: It is a WARC file: "),
         ):  # fmt: skip
             status, _, said = self.run_on_program(*words)
@@ -113,7 +146,7 @@ class Messages(Runs):
             self.assertEqual((3, 1), (status, said.count("\n")), words)
             self.assertIn(wanted, said)
         command = (sys.executable, PYTHON / "bin/warcdx-verify", "--program", "nosuch", index)
-        said = "warcdx-verify: nosuch: no such program; --program PROGRAM names another one\n"
+        said = "warcdx-verify: nosuch: no such program on the PATH; --program PROGRAM names another one\n"
         self.assertEqual((3, "", said), self.run_command(*command))
 
     def test_several_archives_for_one_folder(self) -> None:

@@ -8,32 +8,16 @@ import sys
 import threading
 import time
 import unittest
-from collections.abc import Callable
 from typing import Any
 
 from warcdx import Index, ProgramEnded, ProgramMissing, ProgramTooOld, ReplyTooLate
 
-from .support import ALL, PROGRAM, SAMPLES, WAIT, Case, children_of, lines, processes_of, resource
+from .support import ALL, PROGRAM, SAMPLES, WAIT, Case, children_of, is_running, lines, processes_of, resource
 
 ROOT = pathlib.Path(__file__).resolve().parents[1]
 
 
-def is_running(number: int) -> bool:
-    """Returns whether a process runs: it exists, and isn't one that has ended and whose status isn't read."""
-    try:
-        state = pathlib.Path(f"/proc/{number}/stat").read_text().rpartition(") ")[2][:1]
-    except FileNotFoundError:
-        return False
-    return state != "Z"
-
-
 class Programs(Case):
-    def wait_for(self, condition: Callable[[], bool]) -> None:
-        end = time.monotonic() + WAIT
-        while not condition():
-            self.assertLess(time.monotonic(), end)
-            time.sleep(0.01)
-
     def test_a_missing_program_is_named(self) -> None:
         for name in (str(self.folder / "nosuch"), "warcdx-nosuch", str(self.folder)):
             self.assertIn(name, str(self.raises(ProgramMissing, Index, "index", program=name)))

@@ -4,6 +4,7 @@ import json
 import math
 import os
 import pathlib
+import shutil
 import signal
 import subprocess
 import tempfile
@@ -21,7 +22,7 @@ from warcdx.states import MOST_RUNS
 from warcdx.update_archives import Found, FoundArchive, Passed
 from warcdx.update_merges import Merging, batches_of
 from warcdx.update_reports import damage_of
-from warcdx.update_tasks import Failed, _causes_of, _Lines, _whole_lines, add_hosts, index_archives, merge_runs
+from warcdx.update_tasks import Failed, _causes_of, _Lines, _text_of, _whole_lines, add_hosts, index_archives, merge_runs
 from warcdx.update_workers import Threads
 
 from .support import PROGRAM, SAMPLES
@@ -139,6 +140,39 @@ class TaskTest(unittest.TestCase):
             _, indexed = index_archives(PROGRAM, str(SAMPLES), ["damaged.warc", "response.warc"], str(folder / "new"))
         self.assertEqual([each[2] for each in indexed], ["fault 448 ShortBlock", ""])
 
+    def test_what_else_is_said_is_no_damage(self) -> None:
+        """What starts a program may say something too, and fail with the status that the program has for a damaged archive."""
+        folder = in_folder(self)
+        program = folder / "program"
+        for script, status in (
+            (f'echo "ld.so: ignored" >&2; exec {os.path.abspath(PROGRAM)} "$@"', 0),
+            ('echo "setpriv: no" >&2; exit 1', 1),
+        ):
+            program.write_text(f"#!/bin/sh\n{script}\n")
+            program.chmod(0o755)
+            for names in (["response.warc"], ["damaged.warc"], ["damaged.warc", "response.warc"]):
+                new = str(folder / "new")
+                if status or len(names) > 1:
+                    with self.assertRaisesRegex(Failed, "setpriv: no" if status else "ld.so: ignored"):
+                        index_archives(str(program), str(SAMPLES), names, new)
+                else:
+                    _, ((_, _, cause, _),) = index_archives(str(program), str(SAMPLES), names, new)
+                    self.assertEqual("" if names == ["response.warc"] else "fault 448 ShortBlock", cause)
+
+    def test_a_pipe_that_takes_the_place_of_an_archive(self) -> None:
+        """It does so after the task has looked at the archives, and before the program opens them."""
+        folder = in_folder(self)
+        program = folder / "program"
+        program.write_text(f'#!/bin/sh\nmkfifo pipe; mv pipe b.warc; exec {os.path.abspath(PROGRAM)} "$@"\n')
+        program.chmod(0o755)
+        for names in (["b.warc"], ["a.warc", "b.warc"]):
+            for name in ("a.warc", "b.warc"):
+                (folder / name).unlink(missing_ok=True)
+                shutil.copy(SAMPLES / "response.warc", folder / name)
+            with mock.patch.object(update_tasks, "_SILENCE", 0.1), self.assertRaisesRegex(Failed, "^not a regular file$"):
+                index_archives(str(program), str(folder), names, str(folder / "new"))
+        self.assertEqual({path.name for path in folder.iterdir()}, {"a.warc", "b.warc", "program"})
+
     def test_types_and_urls_may_have_quotes_and_backslashes(self) -> None:
         """A server chooses them."""
         types = ['"text/html', "a\\", '", "mime": "b', '", "status": "7', '", "filename": "c"}']
@@ -210,12 +244,12 @@ class TaskTest(unittest.TestCase):
 
     def test_what_the_program_says(self) -> None:
         def causes(said: str, *names: str) -> Iterator[str]:
-            yield from _causes_of(io.BytesIO(said.encode()), names).values()
+            yield from _causes_of(_text_of(io.BytesIO(said.encode())), names).values()
 
         self.assertEqual([*causes("warcdx: ./a: b\nc.warc: fault 448 ShortBlock\n", "a: b\nc.warc")], ["fault 448 ShortBlock"])
         self.assertEqual([*causes("warcdx-gz: ./b.gz: fault 0 BadMember\n  Its text.\n", "a.gz", "b.gz")], ["", "fault 0 BadMember"])
         self.assertEqual([*causes("warcdx: ./a.warc: cannot open\n  No such file\n", "a.warc")], ["cannot open"])
-        self.assertEqual([*causes("warcdx: Memory\n", "a.warc")], ["warcdx: Memory"])
+        self.assertEqual([*causes("warcdx: Memory\n", "a.warc")], [""])
         with self.assertRaises(Failed):
             [*causes("warcdx: Memory\n", "a.warc", "b.warc")]
         for offset, known in (("9" * 19, int("9" * 19)), ("9" * 5000, None)):
@@ -245,6 +279,14 @@ class TaskTest(unittest.TestCase):
 
 class ThreadsTest(unittest.TestCase):
     """A signal may come while a thread starts: before its first step, or when its task has begun."""
+
+    def test_a_setpriv_without_the_option_is_not_run(self) -> None:
+        folder = in_folder(self)
+        for script, front in (("exit 1", ()), ('shift 2; exec "$@"', ("setpriv", "--pdeathsig", "KILL"))):
+            (folder / "setpriv").write_text(f"#!/bin/sh\n{script}\n")
+            (folder / "setpriv").chmod(0o755)
+            with mock.patch.dict(os.environ, {"PATH": f"{folder}:{os.environ['PATH']}"}):
+                self.assertEqual(Threads(1)._front, front)
 
     def test_no_task_goes_on_after_a_signal(self) -> None:
         start = threading.Thread.start

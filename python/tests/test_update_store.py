@@ -3,8 +3,10 @@ import contextlib
 import json
 import os
 import pathlib
+import shutil
 import signal
 import sqlite3
+import stat
 import tempfile
 import unittest
 from collections import Counter
@@ -144,6 +146,46 @@ class StoreTest(unittest.TestCase):
             with self.assertRaisesRegex(CannotUpdate, "another process"), Store(str(self.folder)).locked(self.settings):
                 self.fail("not locked")
 
+    def test_two_first_runs_at_once(self) -> None:
+        """The second one sees no folder, and comes when the first one has made it, or is done."""
+        runs = contextlib.ExitStack()
+
+        def begin() -> None:
+            runs.enter_context(self.store.locked(self.settings))
+
+        def work() -> None:
+            with self.store.locked(self.settings):
+                self.add("a.warc", range(3))
+                self.store.publish([], [], {})
+
+        class Second(Store):
+            def is_made(self) -> bool:
+                is_made = super().is_made()
+                before()
+                return is_made
+
+        second = Second(str(self.folder))
+        with runs:
+            before = begin
+            with self.assertRaisesRegex(CannotUpdate, "another process"), second.locked(self.settings):
+                self.fail("not locked")
+            self.add("b.warc", range(2))
+            self.store.publish([], [], {})
+        self.assertEqual(self.texts(), [lines_of(range(2), "b.warc")])
+        shutil.rmtree(self.folder)
+        before = work
+        with second.locked(self.settings):
+            self.assertEqual(list(second.archives()), ["a.warc"])
+
+    def test_a_first_run_that_fails_leaves_nothing_but_a_folder_that_was_there(self) -> None:
+        for is_there in (False, True):
+            if is_there:
+                self.folder.mkdir(mode=0o750)
+            with self.subTest(is_there=is_there), self.assertRaises(CannotUpdate), self.store.locked(self.settings):
+                raise CannotUpdate
+            self.assertEqual(list(self.folder.parent.rglob("*")), [self.folder] * is_there)
+        self.assertEqual(stat.S_IMODE(self.folder.stat().st_mode), 0o750)
+
     def test_what_an_ended_run_has_left_is_removed(self) -> None:
         """It is what has a number that was given, and that the database doesn't have. A state that wasn't made is made."""
         with self.store.locked(self.settings):
@@ -248,6 +290,14 @@ class StoreTest(unittest.TestCase):
         with sqlite3.connect(self.folder / "state.db") as database:
             database.execute("DROP TABLE archives")
         with self.assertRaises(CannotUpdate), self.store.locked(self.settings):
+            self.store.archives()
+
+    def test_texts_that_are_not_utf_8_are_those_of_others(self) -> None:
+        with self.store.locked(self.settings):
+            self.add("a.warc", range(3))
+        with contextlib.closing(sqlite3.connect(self.folder / "state.db")) as database, database:
+            database.execute("UPDATE archives SET name = CAST(x'ff' AS TEXT)")
+        with self.assertRaisesRegex(CannotUpdate, "isn't as warcdx-update has written it"), self.store.locked(self.settings):
             self.store.archives()
 
     def test_names_that_are_not_utf_8_are_texts(self) -> None:

@@ -370,8 +370,12 @@ class Command(Case):
         version = (COMMAND.parents[1] / "VERSION").read_text().strip()
         self.assertEqual((f"warcdx-verify {version}\n", "", 0), self.run_command("--version"))
         self.assertIn("usage: warcdx-verify ", self.run_command("-h")[0])
-        for arguments in ((), ("--jobs", "0", "a"), ("--jobs", "x", "a"), ("--jobs",), ("--other", "a")):
+        for arguments in (
+            (), ("--jobs", "0", "a"), ("--jobs", "x", "a"), ("--jobs",), ("--other", "a"), ("-", "-"),
+            ("-o", "report", "--resume", "./report", "a"),
+        ):  # fmt: skip
             self.assertEqual(("", 2), self.run_command(*arguments)[::2], arguments)
+        self.assertEqual([], os.listdir(self.folder))
 
 
 if __name__ == "__main__":

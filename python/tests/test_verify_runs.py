@@ -3,6 +3,7 @@ import gzip
 import importlib.util
 import json
 import os
+import pathlib
 import pty
 import resource
 import signal
@@ -15,7 +16,7 @@ from typing import Any
 
 from warcdx.resuming import CannotResume, Notes
 
-from .support import PROGRAM, WAIT, Case, children_of
+from .support import PROGRAM, WAIT, Case, children_of, is_running
 from .test_verify import COMMAND, OF_ABC, record
 
 GOOD, BAD = record(b"abc", OF_ABC[5]), record(b"abd", OF_ABC[5])
@@ -42,6 +43,31 @@ class Runs(Case):
         self.assertEqual(FORM, json.loads(head))
         notes = dict(json.loads(line) for line in lines if line.endswith("]"))
         return [os.path.relpath(path, self.folder) for path, note in notes.items() if note is not None]
+
+    def has_noted(self, name: str) -> bool:
+        """Returns whether an archive is noted already. The file may not be there, or have a part of a line."""
+        try:
+            return name in self.noted()
+        except (OSError, ValueError):
+            return False
+
+
+def started_below(number: int) -> list[int]:
+    """Returns the process IDs of what a process has started, and of what these have."""
+    return [each for child in children_of(number) for each in (child, *started_below(child))]
+
+
+def name_of(number: int) -> str:
+    """Returns the name of a process, or an empty text if it has ended (Linux)."""
+    try:
+        return pathlib.Path(f"/proc/{number}/comm").read_text().strip()
+    except OSError:
+        return ""
+
+
+def kill(number: int) -> None:
+    if is_running(number):
+        os.kill(number, signal.SIGKILL)
 
 
 class Quiet(Runs):
@@ -97,6 +123,53 @@ class Quiet(Runs):
             said = ["warcdx-verify: warcdx has ended with signal 9", "warcdx-verify: 4 archives: 4 not read"]
             self.assertEqual(([], said, 3), found)
             self.assertEqual([], self.noted())
+
+    def test_a_pipe_that_takes_the_place_of_an_archive(self) -> None:
+        """It does so after the archive was opened. That one is read to its end, by this process or by the program."""
+        swapping = self.script(f'[ "$1" != --help ] || {{ rm a.warc && mkfifo a.warc; }}; exec {WARCDX} "$@"')
+        for text in (GOOD, GOOD.replace(b"WARC-Type:", b"WARC-Type:\r\n")):
+            for end, said, status in (
+                (b"", ["0 same absent"], 0), (b"WARC/1.0\r\n", ["0 same absent", f"fault {len(text)} ShortHead"], 1),
+            ):  # fmt: skip
+                self.put_bytes("a.warc", text + end)
+                self.assertEqual((said, [], status), self.run_command("--program", swapping, "a.warc"))
+                os.remove(self.folder / "a.warc")
+
+    def test_processes_end_with_a_command_that_is_killed(self) -> None:
+        """One copies a pipe, and one waits for the program. They leave no file."""
+        temporary = self.folder / "temporary"
+        temporary.mkdir()
+        os.mkfifo(self.folder / "pipe")
+        self.put_bytes("a.warc", GOOD.replace(b"WARC-Type:", b"WARC-Type:\r\n"))  # which only the program reads
+        waiting = self.script(f'[ "$1" != --help ] || exec {WARCDX} "$@"; exec sleep {2 * WAIT}')
+        command = self.command("--program", waiting, "--jobs", "2", "pipe", "a.warc", "pipe")
+        with subprocess.Popen(command, cwd=self.folder, env={**os.environ, "TMPDIR": str(temporary)}) as process:
+            self.wait_for(lambda: "sleep" in map(name_of, started_below(process.pid)))
+            self.addCleanup(os.close, os.open(self.folder / "pipe", os.O_WRONLY))
+            self.wait_for(lambda: bool(os.listdir(temporary)))
+            started = started_below(process.pid)
+            for each in started:
+                self.addCleanup(kill, each)
+            process.kill()
+        self.assertEqual(3, len(started))
+        self.wait_for(lambda: not any(map(is_running, started)))
+        self.assertEqual([], os.listdir(temporary))
+
+    def test_more_archives_than_files_may_be_open(self) -> None:
+        """All but the first one are read before it, and their lines wait for its lines."""
+        text = GOOD.replace(b"WARC-Type:", b"WARC-Type:\r\n")
+        names = [self.put_bytes(f"{number}.warc", GOOD if number else text) for number in range(150)]
+        slow = self.script(f'[ "$1" = --help ] || sleep 2; exec {WARCDX} "$@"')
+        limit = {"preexec_fn": lambda: resource.setrlimit(resource.RLIMIT_NOFILE, (100, 100))}
+        wanted = [line for name in names for line in (f"{name}:", "0 same absent")]
+        self.assertEqual((wanted, [], 0), self.run_command("--program", slow, "--jobs", "4", *names, **limit))
+
+    def test_a_message_that_is_longer_than_a_pipe_holds(self) -> None:
+        """So is that of the names of many files, if they are in quotes."""
+        names = ["n" * 70_000, "\1" * 20_000]
+        lines, said, status = self.run_command("--jobs", "2", *names)
+        self.assertEqual(([], 3), (lines, status))
+        self.assertEqual([f"warcdx-verify: {name}: cannot open (File name too long)" for name in (names[0], json.dumps(names[1]))], said)
 
     def on_terminal(self, *arguments: str) -> tuple[str, int]:
         """Returns what a terminal shows, and the exit status."""
@@ -174,14 +247,11 @@ class Resume(Runs):
         self.put_bytes("a.warc", GOOD)
         command = self.command("--quiet", "--resume", "notes", "--jobs", "2", "a.warc", "pipe")
         with subprocess.Popen(command, cwd=self.folder, stdout=subprocess.PIPE, stderr=subprocess.PIPE) as process:
-            end = time.monotonic() + WAIT
-            while len(children := children_of(process.pid)) != 1 or not (self.folder / "notes").exists():
-                self.assertLess(time.monotonic(), end)
-            time.sleep(1)
+            self.wait_for(lambda: self.has_noted("a.warc") and len(children_of(process.pid)) == 1)
             for child in children_of(process.pid):
                 os.kill(child, signal.SIGKILL)
             found, said = process.communicate(timeout=WAIT)
-        self.assertEqual((b"", 3), (found, process.returncode), children)
+        self.assertEqual((b"", 3), (found, process.returncode))
         lines = said.decode().splitlines()
         self.assertEqual(["warcdx-verify: a process has ended with signal 9", "warcdx-verify: 2 archives: 1 not read"], lines)
         self.assertEqual(["a.warc"], self.noted())
@@ -199,11 +269,8 @@ class Resume(Runs):
         self.put_bytes("a.warc", GOOD)
         for words in (("a.warc", "pipe"), ("--jobs", "2", "pipe", "a.warc")):
             process = subprocess.Popen(self.command("--quiet", "--resume", "notes", *words), cwd=self.folder)
-            end = time.monotonic() + WAIT
-            while not (self.folder / "notes").exists():
-                self.assertLess(time.monotonic(), end)
-                time.sleep(0.01)
-            time.sleep(1)
+            self.wait_for(lambda: self.has_noted("a.warc"))
+            time.sleep(0.2)  # so that it waits for the pipe
             process.terminate()
             self.assertEqual(-signal.SIGTERM, process.wait(timeout=WAIT))
             self.assertEqual(["a.warc"], self.noted())
@@ -315,6 +382,13 @@ class Resume(Runs):
         runs[1].end(0, names[0], False)
         runs[1].save()
         self.assertEqual(["b.warc"], self.noted())
+
+    def test_an_archive_that_stays_at_fault_adds_no_line(self) -> None:
+        self.put_bytes("a.warc", GOOD)
+        self.put_bytes("b.warc", BAD)
+        for _ in range(3):
+            self.assertEqual(1, self.run_command("--quiet", "--resume", "notes", "a.warc", "b.warc")[2])
+            self.assertEqual(3, len((self.folder / "notes").read_text().splitlines()))
 
     def test_a_link_to_notes_stays_one(self) -> None:
         os.symlink("notes", self.folder / "link")

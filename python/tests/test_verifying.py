@@ -1,6 +1,7 @@
 """The verdicts on all records of an archive, whichever way finds them."""
 import gzip
 import itertools
+import os
 import pathlib
 import random
 import tracemalloc
@@ -83,6 +84,15 @@ class Files(Case):
             (text[:50], "ShortHead"), (text[:500_000], "ShortBlock"), (text[:-2], "Closing"), (longer, "Closing")
         ):  # fmt: skip
             self.expect_changed(self.folder / "a.warc", text, last, name)
+
+    def test_a_file_that_is_cut_after_its_records_were_listed(self) -> None:
+        folded = record(b"abc").replace(b"WARC-Type:", b"WARC-Type:\r\n")  # which only the program reads
+        path = self.folder / "a.warc"
+        path.write_bytes(folded * 3)
+        checked = check_archive(open_archive(path, program=PROGRAM))
+        self.assertEqual(0, next(checked).offset)
+        os.truncate(path, len(folded))
+        self.assertEqual(str(path), self.raises(faults.Read, next, checked).file)
 
     def expect_changed(self, path: pathlib.Path, text: bytes, last: bytes, name: str) -> None:
         """Checks three records, of which the last becomes other bytes before it is read. It has the fault of this name then."""

@@ -1,14 +1,13 @@
 """The records of an archive, by `list`, `verify`, `index` and `get` of the program."""
 import contextlib
 import io
-import operator
 import os
 import re
 import stat
 from collections.abc import Iterator
 from typing import IO, NamedTuple, Optional, TypeVar
 
-from .errors import Fault, ProgramError
+from .errors import Fault, ProgramError, number_of
 from .faults import NoRecord, Read, cannot_open
 from .program import Path, find_packed_program, find_program, memory_file, operand, running, started, write_output
 from .record import CLOSING, Record, RecordStream, Unreadable
@@ -183,7 +182,7 @@ class Archive:
 
         Raises NoRecord for an offset or a length that no record has, and the program refuses as an argument.
         """
-        offset, length = operator.index(offset), None if length is None else operator.index(length)
+        offset, length = number_of("offset", offset), None if length is None else number_of("length", length)
         if not (0 <= offset <= _MOST and 0 <= (length or 0) <= _MOST):
             raise NoRecord("NoRecord", self.path)
         only = () if length is None else ("--length", str(length))
@@ -206,7 +205,7 @@ class Archive:
 
         `most` is the number of bytes that it may have. Whether the text is a record isn't looked at.
         """
-        offset, length = operator.index(offset), None if length is None else operator.index(length)
+        offset, length = number_of("offset", offset), None if length is None else number_of("length", length)
         try:
             with ArchiveFile(self.path) as file:
                 if self._is_packed(file):
@@ -225,8 +224,7 @@ class Archive:
 
     def _further_records(self, start: int) -> Iterator[Record]:
         """Yields the records from an offset on, of which the program says where they are and what is at fault."""
-        if _is_read_once(self.path):
-            raise Unreadable(f"{self.path}: a pipe can be read only once, by list, verify or index; save it to a file")
+        expect_file(self.path)
         for listed, stream in self.listed_streams(start):
             yield Record(stream.head.fields, b"".join(stream.whole_block()), listed.offset, listed.length)
 
@@ -282,24 +280,35 @@ def open_archive(path: Path, *, program: str = "warcdx") -> Archive:
     return Archive(path, program=program)
 
 
-def _is_read_once(path: str) -> bool:
+def _is_read_once(path: Path) -> bool:
     """Returns whether a path names a pipe or another device, of which what was read is gone."""
     try:
         mode = os.stat(path).st_mode
-    except OSError:
+    except (OSError, ValueError):
         return False
     return stat.S_ISFIFO(mode) or stat.S_ISCHR(mode)
 
 
-def _first_bytes(path: str) -> bytes:
+def expect_file(path: Path) -> None:
+    """Raises Unreadable for a pipe or another device of which what was read is gone."""
+    if _is_read_once(path):
+        raise Unreadable(f"{os.fspath(path)}: a pipe can be read only once, by list, verify or index; save it to a file")
+
+
+def _open_at_once(path: str, flags: int) -> int:
+    """Opens a file for `open`, without waiting for who writes a pipe."""
+    return os.open(path, flags | os.O_NONBLOCK)
+
+
+def _first_bytes(path: str) -> Optional[bytes]:
     """Returns the first bytes of a file. Raises CannotOpen or Read."""
     try:
-        file = open(path, "rb", buffering=0)
+        file = open(path, "rb", buffering=0, opener=_open_at_once)
     except OSError as error:
         raise cannot_open(path, error.errno) from error
     with file:
         try:
-            return file.read(len(MAGIC))
+            return file.read(len(MAGIC))  # None if a pipe has taken its place
         except OSError as error:
             raise Read("Read", path) from error
 

@@ -2,6 +2,7 @@
 import re
 from typing import NamedTuple, Optional
 
+from .errors import expect_type, number_of
 from .parameters import NAMES
 from .query import Query, Texts, Value
 from .reported import refused
@@ -35,8 +36,7 @@ class Asked(NamedTuple):
         """
         _check_names(others)
         for name, text in (("url", url), ("query", query)):
-            if not isinstance(text, (str, type(None))):
-                raise TypeError(f"{name} is a text, and not {text!r:.60}")
+            expect_type(name, text, (str, type(None)), "a text")
         given: dict[str, Value] = {}
         if url is query is match is None and not _TARGETS & others.keys():
             given = {"key": "", "matchType": "prefix"}
@@ -55,6 +55,8 @@ class Asked(NamedTuple):
 
     @classmethod
     def _with_limit(cls, query: Query, limit: Optional[int]) -> "Asked":
+        if limit is not None and not isinstance(limit, str):
+            limit = number_of("limit", limit)
         if isinstance(limit, int) and limit > 0 and query.take("limit")[0] is None:
             return cls(query, limit)
         left, rest = query.with_parameters(limit=limit).take_limit()

@@ -5,6 +5,8 @@ from collections.abc import Iterable, Iterator, Sequence
 from typing import IO, NamedTuple, Optional
 
 from .codings import Unreadable
+from .errors import Error
+from .faults import Read
 from .merging import merged
 from .program import Path
 from .streams import whole
@@ -25,7 +27,7 @@ _NOT_ASCII = re.compile(rb"[\x80-\xff]")
 _VALUES = ("url", "mime", "status", "digest", "length", "offset", "filename")
 
 
-class BadRow(Exception):
+class BadRow(Error):
     """A line of a CDX file can't be read."""
 
     def __init__(self, number: int, cause: str) -> None:
@@ -39,10 +41,6 @@ class BadRow(Exception):
 
 class NoColumns(BadRow):
     """A line has neither the columns of a file without a header, nor a header before it. The file may be of another kind."""
-
-
-class CannotRead(Exception):
-    """A CDX file can't be opened or read. The text says which, and the system's reason."""
 
 
 def write_cdx(indexes: Sequence[Path], output: IO[bytes], program: str) -> None:
@@ -74,10 +72,13 @@ def _write_lines(lines: Iterable[bytes], output: IO[bytes]) -> tuple[int, bool]:
 def _cdx_line(line: bytes) -> Optional[bytes]:
     """Returns the columns of a line that the program has accepted, or None for a part of one, if it was ended."""
     parts = line.split(b" ", 2)
-    if len(parts) != 3 or not line.endswith(b"}\n"):
+    if len(parts) != 3 or not line.endswith(b"\n"):
         return None
     key, timestamp, members = parts
-    found = json.loads(members, parse_int=_decimal, parse_float=_nothing, parse_constant=_nothing)
+    try:  # blanks may follow the members, as in a file with the line ends of Windows
+        found = json.loads(members, parse_int=_decimal, parse_float=_nothing, parse_constant=_nothing)
+    except ValueError:
+        return None
     url, mime, status, digest, length, offset, filename = (_column(found.get(name)) for name in _VALUES)
     columns = f"{url} {mime} {status} {digest} - - {length} {int(offset)} {filename}\n"
     return b"%b %b %b" % (key, timestamp, columns.encode())
@@ -115,7 +116,7 @@ class _Row(NamedTuple):
 def cdxj_lines(file: IO[bytes], program: str) -> Iterator[bytes]:
     """Yields the lines of a CDX file as lines of CDXJ, in their order, with the URL keys of warcdx.
 
-    Raises BadRow or CannotRead after the lines before it, or Error if the program fails.
+    Raises BadRow or `faults.Read` after the lines before it, or another Error if the program fails.
     """
     for rows, end in _batches(file):
         yield from _keyed_lines(rows, program)
@@ -135,7 +136,7 @@ def _batches(file: IO[bytes]) -> Iterator[tuple[list[_Row], Optional[Exception]]
             if len(rows) == _MOST_ROWS or urls >= _MOST_URLS or held >= _MOST_HELD:
                 yield rows, None
                 rows, urls, held = [], 0, 0
-    except (BadRow, CannotRead) as error:
+    except (BadRow, Read) as error:
         yield rows, error
     else:
         yield rows, None
@@ -181,7 +182,9 @@ def _line_of(file: IO[bytes]) -> bytes:
     try:
         return file.readline(MOST_LINE + 1)
     except OSError as error:
-        raise CannotRead(f"Read: {error.strerror}") from error
+        fault = Read("Read")
+        fault.advice = error.strerror or ""
+        raise fault from error
 
 
 def _places_of(letters: list[bytes], number: int) -> list[Optional[int]]:

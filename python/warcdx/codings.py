@@ -10,7 +10,7 @@ from collections.abc import Callable, Iterable, Iterator, Sequence
 from dataclasses import dataclass
 from typing import Any, Optional, Union
 
-from .errors import Error
+from .errors import Error, expect_type
 
 MOST_CODINGS = 8  # of one body
 PIECE = 1 << 16  # bytes that are read and unpacked at once, at most
@@ -40,6 +40,10 @@ class Limits:
     size: Optional[int] = None
     seconds: Optional[float] = None
 
+    def __post_init__(self) -> None:
+        expect_type("size", self.size, (int, type(None)), "a number")
+        expect_type("seconds", self.seconds, (int, float, type(None)), "a number")
+
 
 UNLIMITED = Limits()
 
@@ -52,6 +56,7 @@ class Decoder:
     """
 
     def __init__(self, names: Sequence[str], limits: Limits = UNLIMITED) -> None:
+        expect_type("limits", limits, Limits, "a Limits, such as Limits(size=10_000_000)")
         if len(names) > MOST_CODINGS:
             raise Unreadable(f"the body has more than {MOST_CODINGS} codings")
         self._codings = [_coding(name) for name in names]

@@ -1,18 +1,18 @@
 """Indexes and the archives that they name: from a capture to its record in one call."""
 import contextlib
 import os
-from collections.abc import Iterator, Mapping, Sequence
+from collections.abc import Iterable, Iterator, Mapping, Sequence
 from typing import Any, Optional, Union
 
-from .archive import Archive, open_archive
-from .errors import NoArchive
+from .archive import Archive, expect_file, open_archive
+from .errors import NoArchive, expect_type
 from .index import Index
-from .program import Path, find_program
+from .program import Path, find_program, operands
 from .query import Capture, Texts
 from .record import Record, RecordStream
 from .stamps import Moment
 
-Archives = Union[Path, Sequence[Path], Mapping[str, Path]]
+Archives = Union[Path, Iterable[Path], Mapping[str, Path]]
 _MOST_KNOWN = 4096  # archives of which the path and the form are kept
 
 
@@ -35,21 +35,19 @@ class Collection:
 
     def __init__(
         self,
-        indexes: Union[Path, Sequence[Path]],
+        indexes: Union[Path, Iterable[Path]],
         archives: Optional[Archives] = None,
         *,
-        links: Optional[Sequence[Path]] = None,
+        links: Optional[Iterable[Path]] = None,
         program: str = "warcdx",
         processes: int = 1,
     ) -> None:
-        self._links = links
-        self.index = Index(indexes, program=program, processes=processes)
+        self._links = None if links is None else operands(links)
+        names = operands(indexes)
+        self.index = Index(names, program=program, processes=processes)
         if archives is None:
-            first = indexes if isinstance(indexes, (str, os.PathLike)) else indexes[0]
-            archives = os.path.dirname(os.path.abspath(first))
-        if isinstance(archives, (str, os.PathLike)):
-            archives = [archives]
-        self._archives: Union[tuple[Path, ...], Mapping[str, Path]] = archives if isinstance(archives, Mapping) else tuple(archives)
+            archives = os.path.dirname(os.path.abspath(names[0]))
+        self._archives: Union[list[str], Mapping[str, Path]] = archives if isinstance(archives, Mapping) else operands(archives)
         if not self._archives:
             raise ValueError("no folder is given")
         self._program = find_program(program)
@@ -93,20 +91,27 @@ class Collection:
         compressed one only its member. Raises NoArchive if no archive has the name of the capture's,
         `faults.CannotOpen` if it can't be opened, and `faults.NoRecord` if the record isn't there.
         """
-        return self.archive(capture.filename).record(capture.offset, length=capture.length)
+        return self._archive_of(capture).record(capture.offset, length=capture.length)
 
     def stream(self, capture: Capture) -> contextlib.AbstractContextManager[RecordStream]:
         """Opens the record of a capture, to be read in pieces as by `Archive.stream`. Raises as `record` does."""
-        return self.archive(capture.filename).stream(capture.offset, length=capture.length)
+        return self._archive_of(capture).stream(capture.offset, length=capture.length)
+
+    def _archive_of(self, capture: Capture) -> Archive:
+        if not hasattr(capture, "filename"):
+            raise TypeError(f"a capture is what `captures` gives, and not {capture!r:.60}")
+        return self.archive(capture.filename)
 
     def archive(self, name: str) -> Archive:
-        """Returns the archive of a file name in an index. Raises NoArchive, or `faults.CannotOpen`.
+        """Returns the archive of a file name in an index. Raises NoArchive, `faults.CannotOpen`, or Unreadable for a pipe.
 
         Its form, plain or compressed, is found out once. Open a new Collection if archives are replaced.
         """
         found = self._known.get(name)
         if found is None:
-            found = open_archive(self.path(name), program=self._program)
+            path = self.path(name)
+            expect_file(path)  # another one may let who opens it wait for ever
+            found = open_archive(path, program=self._program)
             if len(self._known) >= _MOST_KNOWN:
                 self._known.clear()
             self._known[name] = found
@@ -114,6 +119,7 @@ class Collection:
 
     def path(self, name: str) -> Path:
         """Returns the path of the archive of a file name in an index. There may be no such file. Raises NoArchive."""
+        expect_type("a file name", name, str, "a text")
         if isinstance(self._archives, Mapping):
             if name not in self._archives:
                 raise NoArchive(name)
@@ -124,7 +130,7 @@ class Collection:
         found = find_archive(self._archives, name, self._links)
         if found is None and self._links is not None:
             raise NoArchive(name)
-        return found or os.path.join(os.fspath(self._archives[0]), path)
+        return found or os.path.join(self._archives[0], path)
 
     def close(self) -> None:
         """Ends the processes of the index."""

@@ -52,6 +52,7 @@ class Parser(argparse.ArgumentParser):
             formatter_class=argparse.RawDescriptionHelpFormatter,
             allow_abbrev=False,
         )
+        self._negative_number_matcher = re.compile("(?!)")  # so that `-1` is no file
         self.add_argument("-V", "--version", action="version", version=f"{prog} {__version__}", help="print the version")
 
     def add_output(self, metavar: str, help: str) -> None:
@@ -92,10 +93,17 @@ class Parser(argparse.ArgumentParser):
 
 
 def name_of_file(text: str) -> str:
-    """Reads an argument that is the name of a file."""
+    """Reads an argument that is the name of a file or a folder. An empty one, as of a variable that isn't set, would be this folder."""
     if not text:
         raise argparse.ArgumentTypeError("the name is empty")
     return text
+
+
+def name_on_disk(text: str) -> str:
+    """Reads an argument that is the name of a file or a folder, where `-` isn't that of a standard stream."""
+    if text == "-":
+        raise argparse.ArgumentTypeError("a standard stream can't be used here; a file of this name is ./-")
+    return name_of_file(text)
 
 
 def number_from(least: int, most: int) -> Callable[[str], int]:

@@ -1,5 +1,6 @@
 """What can go wrong: the program can't be run, a query is refused, or a file is at fault."""
-from typing import ClassVar, Optional
+import operator
+from typing import ClassVar, Optional, SupportsIndex, Union
 
 
 class Error(Exception):
@@ -58,6 +59,18 @@ class NoArchive(Error):
 
     def __str__(self) -> str:
         return f"the collection has no archive {self.name!r}"
+
+
+def expect_type(name: str, value: object, kinds: Union[type, tuple[type, ...]], wanted: str) -> None:
+    """Raises TypeError, with a sentence about what is given under this name, unless it is of these types."""
+    if not isinstance(value, kinds):
+        raise TypeError(f"{name} is {wanted}, and not {value!r:.60}")
+
+
+def number_of(name: str, value: SupportsIndex) -> int:
+    """Returns a number that is given under this name, which may be one of numpy. Raises TypeError as `expect_type` does."""
+    expect_type(name, value, SupportsIndex, "a number")
+    return operator.index(value)
 
 
 class Refused(Error):

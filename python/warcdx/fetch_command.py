@@ -1,24 +1,37 @@
-"""Writes the page of a URL from web archives, or what all captures of a query hold.
+"""Writes the page of a URL from web archives, or all that a query selects.
 
-usage: warcdx-fetch [--index INDEX].. [--archives FOLDER].. [--at TIME] [--record] [-o FILE] [--program PROGRAM] URL
-       warcdx-fetch --all [--index INDEX].. [--archives FOLDER].. [--record] [--quiet | --json] -o OUTPUT
-                    [--program PROGRAM] QUERY
+usage: warcdx-fetch [OPTION..] URL
+       warcdx-fetch --all [OPTION..] -o OUTPUT QUERY
 
-Without --all, the capture of the URL that is nearest to TIME is written, or else the latest one. TIME is a date, such as
-2016, 201609 or 2016-09-19, or 14 digits. The page is written as a browser gets it: without headers, chunks and
-compression. For a revisit it is the page of its original. With --record the whole record is written as it is stored.
+Without --all, it writes the capture of the URL that is nearest to TIME, or else
+the latest one. TIME is a date, such as 2016, 201609 or 2016-09-19, or 14
+digits. The page is written as a browser gets it: without headers, chunks and
+compression. For a revisit it is the page of its original. With --record the
+whole record is written as it is stored.
 
-With --all, every capture that QUERY selects is written: into a new folder OUTPUT, with a file for each and a line
-`FILE TIMESTAMP URL` for each on standard output; or into a new archive, if OUTPUT ends with .warc.gz, with the records as
-they are stored. QUERY is a URL, in which * stands at the end or before the host, or a query as of warcdx query. In a
-line, a URL that isn't printable is a JSON string. With --json each line is an object of JSON.
+With --all, it writes every capture that QUERY selects. OUTPUT is a new folder,
+which gets a file for each, with a line `FILE TIMESTAMP URL` on standard output;
+or it ends with .warc.gz, and is a new archive with the records as they are
+stored. QUERY is a URL, with a * at its end or before its host, or a query as of
+warcdx query. In a line, a URL that isn't printable is a JSON string. With
+--json each line is an object of JSON.
 
-INDEX is by default the file of the variable WARCDX_INDEX, and FOLDER that of WARCDX_ARCHIVES, or else the folder of the
-first INDEX. No file is replaced. One has its name once it is whole. `-o -` is standard output.
+INDEX is by default the file of the variable WARCDX_INDEX, and FOLDER that of
+WARCDX_ARCHIVES, or else the folder of the first INDEX. No file is replaced, and
+a new one has its name once it is whole. `-o -` is standard output.
 
-The exit status is 0; 1 if there is no such capture, or one can't be read; 2 after a usage error; or 3 if a file can't
-be opened, or reading, writing, memory or the program failed. With --all what can't be read is named on standard error,
-and the others are written.
+Examples:
+  warcdx-fetch --index all.cdxj http://example.com/ > page.html
+  warcdx-fetch --index all.cdxj.d --archives /data --at 2016 http://example.com/
+  warcdx-fetch --index all.cdxj --all -o pages 'example.com/*'
+  warcdx-fetch --index all.cdxj --all -o part.warc.gz 'url=*.example.com'
+
+Exit status:
+  0  everything was written
+  1  there is no such capture, or one can't be read; with --all that one is
+     named on standard error, and the others are written
+  2  usage error
+  3  a file can't be opened, or reading, writing, memory or the program failed
 """
 import argparse
 import functools
@@ -34,11 +47,12 @@ from typing import IO, BinaryIO, Optional
 
 from .advice import advice_on, advice_on_query
 from .collection import Collection
-from .command import FAILED, FAILURES, FAULTY, Parser, failure, line_of, printable, report, run, status_of
+from .command import FAILED, FAILURES, FAULTY, Parser, failure, line_of, name_on_disk, printable, report, run, status_of
 from .errors import Error, Fault, NoArchive, Refused
-from .faults import CannotOpen
+from .faults import CannotOpen, Read
 from .fetching import moment_of, nearest, opened_page
 from .outputs import STANDARD, check_that_it_is_new, new_file, output_of
+from .program import operands
 from .query import Capture
 from .record import RecordStream, Unreadable
 
@@ -53,8 +67,8 @@ _PARAMETERS = re.compile("[A-Za-z]+=")
 def read_arguments(arguments: Optional[Sequence[str]]) -> argparse.Namespace:
     parser = Parser(NAME, __doc__)
     add = parser.add_argument
-    add("--index", action="append", default=[], metavar="INDEX", help="an index of the archives; may be repeated")
-    add("--archives", action="append", default=[], metavar="FOLDER", help="a folder with the archives; may be repeated")
+    add("--index", action="append", default=[], type=name_on_disk, metavar="INDEX", help="an index of the archives; may be repeated")
+    add("--archives", action="append", default=[], type=name_on_disk, metavar="FOLDER", help="a folder with the archives; may be repeated")
     add("--at", type=_moment_of, metavar="TIME", help="write the capture nearest to this time")
     add("--all", action="store_true", help="write every capture that QUERY selects")
     add("--record", action="store_true", help="write records as they are stored")
@@ -63,7 +77,7 @@ def read_arguments(arguments: Optional[Sequence[str]]) -> argparse.Namespace:
     lines.add_argument("--json", action="store_true", help="with --all, print a line of JSON about each file")
     parser.add_output("FILE", "the new file, or with --all the new folder or archive")
     add("--program", default="warcdx", metavar="PROGRAM", help="the program (%(default)s); warcdx-gz is beside it, or of the PATH")
-    add("query", metavar="URL")
+    add("query", metavar="URL", help="what to write; with --all a query too")
     given = parser.parse(arguments)
     given.index = given.index or list(filter(None, [os.environ.get("WARCDX_INDEX")]))
     if not given.index:
@@ -184,11 +198,11 @@ def write_member(record: RecordStream, file: IO[bytes]) -> None:
 
 def say(capture: Capture, error: Error) -> int:
     """Reports a capture that can't be read, and returns the exit status. Raises the error if it is none of the archive."""
-    is_failure = isinstance(error, FAILURES) and not isinstance(error, CannotOpen)
-    if is_failure or not isinstance(error, (Fault, NoArchive, Unreadable)):
+    is_unread = isinstance(error, (CannotOpen, Read))  # which others needn't be
+    if isinstance(error, FAILURES) and not is_unread or not isinstance(error, (Fault, NoArchive, Unreadable)):
         raise error
     report(NAME, f"{capture.timestamp} {printable(capture.original)}: {reason_of(error)}")
-    return FAILED if isinstance(error, CannotOpen) else FAULTY
+    return FAILED if is_unread else FAULTY
 
 
 def reason_of(error: Error) -> str:
@@ -198,7 +212,7 @@ def reason_of(error: Error) -> str:
 def line_about(fault: Fault, given: argparse.Namespace) -> str:
     """Returns what is said of a fault that ends the command."""
     advice = "" if fault.file is None else advice_on(fault, fault.file, given.program)
-    is_archive = isinstance(fault, CannotOpen) and fault.file not in given.index
+    is_archive = isinstance(fault, CannotOpen) and fault.file not in operands(given.index)
     return line_of(fault, advice) + ("; --archives FOLDER names the folder of the archives" if is_archive else "")
 
 

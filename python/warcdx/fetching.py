@@ -24,8 +24,8 @@ _SHA1 = re.compile("sha1:", re.IGNORECASE)
 def moment_of(text: str) -> datetime.datetime:
     """Returns the time in UTC of a date as `Index.captures` takes it. What it leaves out is filled to the end of its period.
 
-    So `2016` is the last second of that year, and what is nearest to it is the last capture of the year, if there is one. Raises
-    ValueError if there is no such time.
+    So `2016` is the last second of that year. What is nearest to it may be a capture of early 2017. Raises ValueError if there
+    is no such time.
     """
     try:
         stamp = stamp_of("at", text)
@@ -74,17 +74,18 @@ def original_of(ask: Ask, head: Head) -> Optional[Capture]:
     the digest alone. One that was not modified may have the digest of no bytes: then it is that of the time.
     """
     url = url_of_original(head)
-    digest = _SHA1.sub("", head.field("WARC-Payload-Digest") or "", count=1)
-    if is_unmodified(head) and digest == _NOTHING:
-        digest = ""
+    given = head.field("WARC-Payload-Digest") or ""
+    digest = _SHA1.sub("", given, count=1)
+    is_known = digest and not (is_unmodified(head) and digest == _NOTHING)
+    spellings = dict.fromkeys((digest, given)) if is_known else {}  # other programs write its name into indexes too
     time = _NOT_DIGITS.sub("", head.field("WARC-Refers-To-Date") or "")[:14]
     if not url:
         return None
     at = f"&from={time}&to={time}" if len(time) == 14 else ""
-    same = f"&is=digest:{quote_plus(digest, errors='surrogateescape')}" if digest else ""
+    same = [f"&is=digest:{quote_plus(each, errors='surrogateescape')}" for each in spellings]
     asked = f"url={quote_plus(url, errors='surrogateescape')}&matchType=exact&isnot=mimetype:{REVISIT}"
     with contextlib.suppress(Refused):  # as for a URL that is none
-        for conditions in filter(None, dict.fromkeys((at and at + same, same))):
+        for conditions in [at + each for each in same or [""] if at] + same:
             for capture in ask(asked + conditions):
                 return capture
     return None

@@ -8,6 +8,7 @@ from dataclasses import dataclass
 from typing import Optional
 
 from .codings import PIECE, UNLIMITED, Decoder, Limits, Unreadable, decoded
+from .errors import expect_type
 
 HEAD_LIMIT = 1 << 20  # bytes of a head
 _MOST_HELD = 16  # pieces of a body that are read ahead
@@ -32,6 +33,7 @@ class WithFields:
 
     def field(self, name: str) -> Optional[str]:
         """Returns the value of the first field of a name, in any case, or None."""
+        expect_type("the name of a field", name, str, "a text")
         wanted = name.lower()
         for found, value in self.fields:
             if found.lower() == wanted:

@@ -2,17 +2,18 @@
 import contextlib
 import os
 import queue
+import stat
 import weakref
-from collections.abc import Callable, Iterator, Sequence
-from typing import Any, Optional, Union
+from collections.abc import Callable, Iterable, Iterator, Sequence
+from typing import Any, NoReturn, Optional, Union
 
 from .asked import Asked
-from .errors import Refused
-from .faults import cannot_open
+from .errors import Refused, expect_type, number_of
+from .faults import Read, cannot_open
 from .fields import FIELDS
 from .parameters import parameter_of
-from .program import Path, find_program, operand
-from .query import MOST_LIMIT, Capture, Page, Query, RowPage, Texts, Value, fits, length_of, one_line, rows_query, split_rows
+from .program import Path, find_program, operands
+from .query import MOST_LIMIT, Capture, Page, Query, RowPage, Texts, Value, fits, in_bytes, length_of, one_line, rows_query, split_rows
 from .reported import refused
 from .serve import Files, Serve
 from .stamps import Moment
@@ -47,7 +48,7 @@ class Index:
     Any other parameter of docs/QUERY.md may be given by its name there, such as `collapse`, `has`, `key` or
     `matchType`. One that is a word of Python is written `from_` or `is_`. One that may be repeated takes a list.
 
-    The constructor raises `faults.CannotOpen` if an index can't be opened. A query that the program refuses
+    The constructor raises `faults.CannotOpen` if an index can't be opened, and `faults.Read` if it is a pipe. A query that the program refuses
     raises the class of `warcdx.refusals` that is named as the program names the cause, and an index that is at
     fault one of `warcdx.faults`. A query whose program ends before its reply is whole is asked once more, and
     raises ProgramEnded if that ends too. After each of these the next query is answered as usual.
@@ -62,21 +63,23 @@ class Index:
 
     def __init__(
         self,
-        paths: Union[Path, Sequence[Path]],
+        paths: Union[Path, Iterable[Path]],
         *,
         program: str = "warcdx",
         processes: int = 1,
         seconds: Optional[float] = None,
         most: Optional[int] = None,
     ) -> None:
+        processes = number_of("processes", processes)
         if processes < 1:
             raise ValueError("processes has to be 1 or more")
-        if isinstance(paths, (str, os.PathLike)):
-            paths = [paths]
-        if not paths:
+        expect_type("seconds", seconds, (int, float, type(None)), "a number")
+        most = None if most is None else number_of("most", most)
+        names = operands(paths)
+        if not names:
             raise ValueError("no index is given")
         found = find_program(program)
-        self._files = _open_files(paths)
+        self._files = _open_files(names)
         self._close_files = weakref.finalize(self, _close, self._files.descriptors)
         self.seconds = seconds
         self.most = most
@@ -99,7 +102,7 @@ class Index:
         filter: Texts = (),
         limit: Optional[int] = None,
         query: Optional[str] = None,
-        page_size: int = PAGE_SIZE,
+        page_size: Optional[int] = PAGE_SIZE,
         **parameters: Value,
     ) -> Iterator[Capture]:
         """Yields the captures that a query selects, in order: as many as `limit`, or all.
@@ -120,7 +123,7 @@ class Index:
         filter: Texts = (),
         limit: Optional[int] = None,
         query: Optional[str] = None,
-        page_size: int = PAGE_SIZE,
+        page_size: Optional[int] = PAGE_SIZE,
         **parameters: Value,
     ) -> Iterator[Page]:
         """Yields the same captures page by page, each with the resume key of the next page."""
@@ -158,7 +161,7 @@ class Index:
         filter: Texts = (),
         limit: Optional[int] = None,
         query: Optional[str] = None,
-        page_size: int = PAGE_SIZE,
+        page_size: Optional[int] = PAGE_SIZE,
         **parameters: Value,
     ) -> Iterator[list[str]]:
         """Yields the values of these fields of each capture that a query selects, as texts."""
@@ -176,7 +179,7 @@ class Index:
         filter: Texts = (),
         limit: Optional[int] = None,
         query: Optional[str] = None,
-        page_size: int = PAGE_SIZE,
+        page_size: Optional[int] = PAGE_SIZE,
         **parameters: Value,
     ) -> dict[str, list[Any]]:
         """Returns a list for each of these fields: its values of all captures that a query selects, up to `limit`.
@@ -220,11 +223,9 @@ class Index:
 
     def text(self, query: str) -> bytes:
         """Returns a page as `warcdx query` writes it."""
-        line = one_line(query)
-        asked = Query.of(line, {})
-        is_json = asked.has("output", "json")
+        line, asked = _line_of(query), Query.of(query, {})
         with self._turn(asked) as serve:
-            return serve.text(line.encode(errors="surrogateescape"), is_json, self.seconds, self.most)
+            return serve.text(line, asked.has("output", "json"), self.seconds, self.most)
 
     def stream(self, query: str) -> Iterator[bytes]:
         """Yields a page as `warcdx query` writes it, in pieces as the program writes them.
@@ -232,14 +233,15 @@ class Index:
         It is read by one query, whose process answers no other until the last piece is taken or the iterator is
         closed. `seconds` is the time for each piece, and `most` bounds none.
         """
-        line = one_line(query)
-        asked = Query.of(line, {})
+        line, asked = _line_of(query), Query.of(query, {})
         with self._turn(asked) as serve:
-            encoded = line.encode(errors="surrogateescape")
-            yield from serve.stream(encoded, asked.has("output", "json"), self.seconds)
+            yield from serve.stream(line, asked.has("output", "json"), self.seconds)
 
     def __repr__(self) -> str:
         return f"Index({self._files.names!r:.200})"
+
+    def __reduce__(self) -> NoReturn:
+        raise TypeError("an Index isn't copied, or sent to another process; open another one there")
 
     def close(self) -> None:
         """Ends the processes, after the queries that are being answered. A second call does nothing."""
@@ -257,11 +259,12 @@ class Index:
     def __exit__(self, *error: object) -> None:
         self.close()
 
-    def _row_pages(self, asked: Asked, fields: Sequence[str], size: int) -> Iterator[RowPage]:
+    def _row_pages(self, asked: Asked, fields: Sequence[str], size: Optional[int]) -> Iterator[RowPage]:
         """Yields the rows of each page of at most `size` captures, and the resume key of the next page.
 
         If no query can have that key, the page is read again, longer, and what follows in it is a further page.
         """
+        size = PAGE_SIZE if size is None else number_of("page_size", size)
         if size < 1:
             raise ValueError("page_size has to be 1 or more")
         query, left = asked
@@ -304,10 +307,21 @@ class Index:
 
 def _fields_of(fields: Union[str, Sequence[str]]) -> tuple[str, ...]:
     """Returns the names of fields. A text may have several, between commas."""
-    return tuple(fields.split(",") if isinstance(fields, str) else fields)
+    if isinstance(fields, str):
+        return tuple(field.strip() for field in fields.split(","))
+    expect_type("fields", fields, Iterable, "a text, or a list of texts")
+    for field in (names := tuple(fields)):
+        expect_type("a field", field, str, "a text")
+    return names
 
 
-def _open_files(indexes: Sequence[Path]) -> Files:
+def _line_of(query: str) -> bytes:
+    """Returns a query text as the line that is sent for it."""
+    expect_type("query", query, str, "a text")
+    return in_bytes(one_line(query))
+
+
+def _open_files(indexes: Sequence[str]) -> Files:
     """Opens the files of indexes. Those of a folder stay open, because updates remove them. Raises `faults.CannotOpen`."""
     names: list[str] = []
     operands: list[str] = []
@@ -315,8 +329,8 @@ def _open_files(indexes: Sequence[Path]) -> Files:
     try:
         for index in indexes:
             is_folder = os.path.isdir(index)
-            for path in runs_of(index) if is_folder else [os.fspath(index)]:
-                names.append(operand(path))
+            for path in runs_of(index) if is_folder else [index]:
+                names.append(path)
                 descriptor = _open(names[-1])
                 if is_folder:
                     descriptors.append(descriptor)
@@ -332,9 +346,15 @@ def _open_files(indexes: Sequence[Path]) -> Files:
 
 def _open(path: str) -> int:
     try:
-        return os.open(path, os.O_RDONLY | os.O_NONBLOCK | os.O_CLOEXEC)
+        descriptor = os.open(path, os.O_RDONLY | os.O_NONBLOCK | os.O_CLOEXEC)
     except (OSError, ValueError) as error:  # ValueError: such as a path with a NUL
         raise cannot_open(path, getattr(error, "errno", None)) from error
+    if stat.S_ISFIFO(os.fstat(descriptor).st_mode):  # the program would wait for a writer, or hasn't the descriptor of the path
+        os.close(descriptor)
+        fault = Read("Read", path)
+        fault.advice = "An index is a file, because it is searched: write what a pipe has to a file first."
+        raise fault
+    return descriptor
 
 
 def _close(descriptors: Sequence[int]) -> None:

@@ -11,11 +11,11 @@ import subprocess
 import sys
 import threading
 import time
-from collections.abc import Callable, Iterator
-from typing import IO, Any, Optional, Union
+from collections.abc import Callable, Iterable, Iterator
+from typing import IO, Any, Optional, Union, cast
 
 from .ending import blocked
-from .errors import NO_STATUS, Error, ProgramError, ProgramMissing, ProgramTooOld, ReplyTooLate
+from .errors import NO_STATUS, Error, ProgramError, ProgramMissing, ProgramTooOld, ReplyTooLate, expect_type
 from .reported import error_of
 from .streams import whole
 
@@ -30,28 +30,37 @@ _names: dict[str, str] = {}  # of the programs that were found, by their paths
 _HELP = re.compile(rb"(warcdx|warcdx-gz) ([0-9]+)\.([0-9]+)\.([0-9]+)")
 
 
-def find_program(name: str) -> str:
+def find_program(program: Path) -> str:
     """Returns the path of a program that is warcdx or warcdx-gz, and not too old.
 
-    A name without `/` is looked up on the PATH, and then in the folder of Python. Raises ProgramMissing or
-    ProgramTooOld.
+    A name without `/` is looked up on the PATH, then in the folder of Python, where a wheel has it, and then in bin/ of
+    the release that has this package. Raises ProgramMissing or ProgramTooOld.
     """
+    expect_type("program", program, (str, os.PathLike), "a text or a Path")
+    name = os.fspath(program)
     path = shutil.which(name)
-    if path is None and "/" not in name:  # a wheel has the program beside its Python
-        path = shutil.which(name, path=os.path.dirname(sys.executable))
+    if path is None and "/" not in name:
+        path = shutil.which(name, path=os.pathsep.join((os.path.dirname(sys.executable), *_bin_of_release())))
     if path is None:
-        raise ProgramMissing(f"{name}: no such program")
+        raise ProgramMissing(f"{name}: no such program" + ("" if "/" in name else " on the PATH"))
     path = os.path.abspath(path)
     check_version(path)
     return path
 
 
-def find_packed_program(name: str) -> str:
+def _bin_of_release() -> tuple[str, ...]:
+    """Returns the folder of the programs, if this package is in share/warcdx/python of a release."""
+    package = os.path.dirname(os.path.realpath(__file__))
+    prefix = package.removesuffix("/share/warcdx/python/warcdx")
+    return () if prefix == package else (f"{prefix}/bin",)
+
+
+def find_packed_program(program: Path) -> str:
     """Returns the path of warcdx-gz, from the name of either program. Raises as `find_program` does.
 
     If it is that of warcdx, warcdx-gz is in the same folder, or else where `find_program` finds it.
     """
-    return find_program(packed_program_of(find_program(name)))
+    return find_program(packed_program_of(find_program(program)))
 
 
 def packed_program_of(path: str) -> str:
@@ -89,8 +98,16 @@ def _not_started(path: str, error: OSError) -> Exception:
 
 def operand(path: Path) -> str:
     """Returns a path as the program takes it: one that begins with `-` would be an option."""
+    expect_type("a path", path, (str, os.PathLike), "a text or a Path")
     name = os.fspath(path)
     return f"./{name}" if name.startswith("-") else name
+
+
+def operands(paths: Union[Path, Iterable[Path]]) -> list[str]:
+    """Returns one path, or several, as the program takes them."""
+    if isinstance(paths, Iterable) and not isinstance(paths, (str, bytes, os.PathLike, io.IOBase)):
+        return list(map(operand, paths))
+    return [operand(cast(Path, paths))]
 
 
 class Process(subprocess.Popen[bytes]):

@@ -6,6 +6,7 @@ from dataclasses import dataclass
 from typing import NamedTuple, Optional, Union
 from urllib.parse import quote_plus, unquote_plus
 
+from .reported import refused
 from .stamps import Moment, stamp_of
 
 Texts = Union[str, Iterable[str]]
@@ -110,7 +111,7 @@ class Query(NamedTuple):
         return Query((*self.pieces, *Query.of(None, parameters).pieces))
 
     def encoded(self) -> bytes:
-        return str(self).encode(errors="surrogateescape")
+        return in_bytes(str(self))
 
     def __str__(self) -> str:
         return "&".join(self.pieces)
@@ -134,6 +135,14 @@ def split_rows(rows: list[list[str]]) -> RowPage:
     return rows[1:], None
 
 
+def in_bytes(text: str) -> bytes:
+    """Returns a text in UTF-8, with the bytes that surrogates stand for. Raises the refusal NotText for other surrogates."""
+    try:
+        return text.encode(errors="surrogateescape")
+    except UnicodeEncodeError:
+        raise refused("NotText") from None
+
+
 def one_line(text: str) -> str:
     """Returns a query text without line breaks, which means the same."""
     return text.replace("\r", "%0D").replace("\n", "%0A")
@@ -154,4 +163,4 @@ def encoded(name: str, value: Value) -> list[str]:
     for each in values:
         if not isinstance(each, str):
             raise TypeError(f"{name} has to be a text, or a list of texts, and not {each!r:.60}")
-    return [f"{quote_plus(name)}={quote_plus(each, errors='surrogateescape')}" for each in values]
+    return [f"{quote_plus(name)}={quote_plus(in_bytes(each))}" for each in values]

@@ -8,6 +8,7 @@ from dataclasses import dataclass, field
 from typing import IO, Optional, Union
 
 from .codings import UNLIMITED, Limits, Unreadable
+from .errors import expect_type
 from .http_messages import Fields, HttpHead, Message, WithFields, field_of, pieces_of, unfolded
 
 __all__ = ["Head", "HttpHead", "Record", "RecordStream", "Unreadable", "payload"]
@@ -83,6 +84,7 @@ class Record(Head):
     @classmethod
     def read(cls, record: bytes, offset: Optional[int] = None, length: Optional[int] = None) -> "Record":
         """Returns the record of these bytes, as `warcdx get` writes them. Raises Unreadable."""
+        expect_type("a record", record, bytes, "bytes")
         head, found, rest = record.partition(CLOSING)
         if not found or not rest.endswith(CLOSING):
             raise Unreadable("the input isn't a record")
@@ -243,4 +245,5 @@ def payload(record: Union[Record, bytes]) -> bytes:
     that the head names, and with which the body doesn't begin, is passed over: it was undone before. Raises
     Unreadable if the body begins with a coding and isn't a whole text of it, or the coding can't be undone.
     """
+    expect_type("a record", record, (Record, bytes), "a Record, or its bytes")
     return (Record.read(record) if isinstance(record, bytes) else record).payload()

@@ -59,6 +59,8 @@ class BadLimit(Refused):
 class BadResume(Refused):
     """A resume key isn't that of a place."""
 
+    advice = "it is the resume_key of a page, unchanged"
+
 
 class BadFlag(Refused):
     """A flag is neither `true` nor `false`."""
@@ -77,6 +79,8 @@ class BadOutput(Refused):
 class BadCollapse(Refused):
     """A value of `collapse` isn't one of the three."""
 
+    advice = "it is urlkey, timestamp or timestamp:N"
+
 
 class NoUrl(Refused):
     """There is neither `url` nor `key`."""
@@ -90,6 +94,8 @@ class UrlAndKey(Refused):
 
 class BadUrl(Refused):
     """An address is refused by the URL Standard, or isn't a web address where it has to be."""
+
+    advice = "it is an address such as example.com/a, example.com/a* or *.example.com; without one all captures are given"
 
 
 BY_NAME: dict[str, type[Refused]] = {kind.__name__: kind for kind in Refused.__subclasses__()}

@@ -32,7 +32,7 @@ _State = tuple[Note, int, int]
 
 
 class Notes:
-    """The archives that were good, by their paths. Each one adds a line to the file, and so does one that isn't good."""
+    """The archives that were good, by their paths. Each one adds a line to the file, and so does one that isn't good any more."""
 
     def __init__(self, path: str) -> None:
         """Reads the notes, or makes their file. Raises CannotResume or OSError."""
@@ -48,6 +48,7 @@ class Notes:
                 raise CannotResume(f"{printable(path)} isn't a file of --resume, and stays as it is: give another name")
             while line := file.readline(_MOST_LINE):
                 self._take(line)
+            self._size = file.tell()  # in bytes, but for what others write meanwhile
         self._unwritten = b"" if form else _FORM
         self.save()
 
@@ -70,7 +71,8 @@ class Notes:
         """An archive was read. Nothing is noted of one that was changed meanwhile."""
         before, path = self._begun.pop(number), os.path.abspath(file)
         note = before[0] if is_good and before is not None and before == _state_of(file) else None
-        if note is None or self._noted.get(path) != note:
+        is_noted = self._noted.get(path) == note and os.fstat(self._file).st_size == self._size
+        if not is_noted:
             self._noted[path] = note
             self._unwritten += b"\n" + json.dumps([path, note]).encode()  # a line before it may be cut
 
@@ -78,7 +80,9 @@ class Notes:
         """Writes what isn't in the file yet. Raises OSError."""
         left = self._unwritten
         while left:
-            left = left[os.write(self._file, left) :]
+            count = os.write(self._file, left)
+            self._size += count
+            left = left[count:]
         self._unwritten = b""
 
 

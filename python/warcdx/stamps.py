@@ -19,7 +19,10 @@ def stamp_of(name: str, moment: Union[str, int, datetime.date]) -> str:
     digits as a text or a number. A time without a zone is in UTC. Raises the refusal BadStamp of the parameter `name`.
     """
     if isinstance(moment, datetime.datetime):
-        return _digits_of(moment)
+        try:
+            return _digits_of(moment)
+        except OverflowError:  # it isn't in a year from 1 to 9999 in UTC
+            raise refused("BadStamp", name) from None
     if isinstance(moment, datetime.date):
         return f"{moment.year:04}{moment.month:02}{moment.day:02}"
     text = str(moment).strip()

@@ -108,13 +108,15 @@ def is_whole(folder: str, number: int, runs: Sequence[Listed]) -> bool:
     return manifest == _manifest_of(number, runs) and is_regular(f"{state}/{SUMMARY}") and all(_has_link(state, run.file) for run in runs)
 
 
-def make_folder(path: str) -> None:
-    """Makes a folder if there is none. Raises OSError, also for a link: what it leads to is another's."""
+def make_folder(path: str) -> bool:
+    """Makes a folder if there is none, and returns whether it has. Raises OSError, also for a link: what it leads to is another's."""
     try:
         os.mkdir(path)
     except FileExistsError:
         if os.path.islink(path) or not os.path.isdir(path):
             raise NotADirectoryError(errno.ENOTDIR, os.strerror(errno.ENOTDIR), path) from None
+        return False
+    return True
 
 
 def _manifest_of(number: int, runs: Sequence[Listed]) -> dict[str, Any]:

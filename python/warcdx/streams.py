@@ -152,5 +152,7 @@ def whole(output: IO[bytes]) -> IO[bytes]:
 
     An unbuffered file of Python may write a part, and returns how much.
     """
+    if not hasattr(output, "write") or isinstance(output, io.TextIOBase):
+        raise TypeError(f"the output is a file that is open to write bytes, and not {output!r:.60}")
     given: object = output
     return cast("IO[bytes]", _Whole(given)) if isinstance(given, io.RawIOBase) else output

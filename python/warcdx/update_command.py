@@ -1,24 +1,39 @@
 """Keeps one index of all archives in a folder up to date.
 
-usage: warcdx-update [--recursive] [--types TYPES] [--remove N|N%|all] [--jobs N | --scheduler ADDRESS] [--single] [--compact]
-                     [--ratio N] [--json] [--all-faults] [--quiet] [--dry-run] [--program PROGRAM] FOLDER INDEX
+usage: warcdx-update [OPTION..] FOLDER INDEX
 
-FOLDER contains the archives: files whose names end with .warc or .warc.gz. Each one is read as a plain or as a
-compressed archive, as its first bytes say. In the index, the file name of an archive is its path below FOLDER.
+FOLDER contains the archives: files whose names end with .warc or .warc.gz. The
+first bytes of each decide whether it is read as a plain or as a compressed
+archive. In the index, the file name of an archive is its path below FOLDER.
 
-If INDEX is a folder, or its name ends with .d or /, the index is a folder of runs, each of which is a sorted index. An
-update adds a run, merges small ones, and leaves the others as they are. INDEX/current leads to the runs of the index.
-Any other INDEX is one file, which each update writes anew, and INDEX.d is the folder.
+If INDEX is a folder, or its name ends with .d or /, the index is a folder of
+runs, each of which is a sorted index. An update adds a run, merges small ones,
+and leaves the others as they are, so it writes little more than what is new.
+INDEX/current leads to the runs of the index. Any other INDEX is one file, which
+each update writes anew, and INDEX.d is the folder.
 
-Only archives that are new or changed are indexed. An archive has changed if its size, its inode, or the time of a
-change of either has. An update is seen at once and as a whole. FOLDER, --recursive and --types are those of the
-first run, and INDEX is replaced only if an earlier run has made it.
+Only archives that are new or changed are indexed. An archive has changed if its
+size, inode, modification time or change time differs from the last run. Readers
+see the old index or the new one, and never a part. FOLDER, --recursive and
+--types are those of the first run, and INDEX is replaced only if an earlier run
+has made it.
 
-If archives are gone, the index keeps their captures, unless --remove lets that many leave it. An archive that
-is damaged is indexed up to the damage. If an archive can't be read, the index keeps the captures that it had of it.
-A line on standard error names each such archive, once for the same fault. The exit status is 0; 1 if an archive is
-newly damaged; 2 after a usage error; or 3 if an archive newly can't be read, archives are gone, INDEX can't be made,
-or another process updates it.
+If archives are gone, the index keeps their captures, unless --remove lets that
+many leave it. An archive that is damaged is indexed up to the damage. If an
+archive can't be read, the index keeps the captures that it had of it. A line on
+standard error names each such archive, once for the same fault.
+
+Examples:
+  warcdx-update /data all.cdxj.d
+  warcdx-update --recursive --remove 1% /data all.cdxj.d
+  warcdx query 'url=*.example.com' all.cdxj.d/current/*.cdxj
+
+Exit status:
+  0  everything is indexed, but for faults that an earlier run has reported
+  1  an archive is newly damaged
+  2  usage error
+  3  an archive newly can't be read, archives are gone, INDEX can't be made, or
+     another process updates it
 """
 import argparse
 import functools
@@ -29,7 +44,7 @@ from collections import Counter
 from collections.abc import Sequence
 from typing import BinaryIO, Optional
 
-from .command import FAILED, Parser, failure, number_from, printable, report, run
+from .command import FAILED, Parser, failure, name_on_disk, number_from, printable, report, run
 from .errors import Error
 from .files import is_in
 from .program import PACKED, find_packed_program
@@ -79,9 +94,9 @@ def read_arguments(arguments: Optional[Sequence[str]]) -> argparse.Namespace:
     add("--all-faults", action="store_true", help="report the faults too that an earlier run has reported")
     add("--quiet", action="store_true", help="print nothing but faults")
     add("--dry-run", action="store_true", help="print what would be indexed, removed and kept, and change nothing")
-    add("--program", default="warcdx", metavar="PROGRAM", help="warcdx-gz, or the program beside which it is (%(default)s)")
-    add("folder", metavar="FOLDER")
-    add("index", metavar="INDEX")
+    add("--program", default="warcdx", metavar="PROGRAM", help="warcdx-gz, or a program in its folder (%(default)s)")
+    add("folder", type=name_on_disk, metavar="FOLDER", help="the folder with the archives")
+    add("index", type=name_on_disk, metavar="INDEX", help="the index that is kept up to date")
     add("more", nargs="*", default=(), help=argparse.SUPPRESS)
     given = parser.parse(arguments)
     if given.more:

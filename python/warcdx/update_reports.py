@@ -47,7 +47,7 @@ class Report(NamedTuple):
     @property
     def is_lasting(self) -> bool:
         """Whether the archive is at fault, and not the machine, as without memory or room on a disk."""
-        return self.status == FAULT or self.status == FAILED and self.message in _LASTING
+        return self.status == FAULT or self.status == FAILED and damage_of(self.archive, self.message)["cause"] in _LASTING
 
     def values(self) -> dict[str, Any]:
         return {**self._asdict(), "action": self.action.value}

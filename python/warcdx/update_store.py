@@ -47,44 +47,57 @@ class Store:
             return False
         if DATABASE in names and is_regular(self._path):
             with self._connected():
-                (application,), (form,) = self._ask("PRAGMA application_id")[0], self._ask("PRAGMA user_version")[0]
-                is_empty = not self._ask("SELECT 1 FROM sqlite_master LIMIT 1")
-                if application == _APPLICATION and not is_empty:
-                    if form != FORM:
-                        raise CannotUpdate(f"another version of warcdx-update has made {self.folder}")
-                    if not update_tables.are_whole(self._database):
-                        raise _changed_by_others(self._path)
+                if self._is_filled():
                     return True
-            names -= _BEGUN if is_empty else set()
+                if not self._ask("SELECT 1 FROM sqlite_master LIMIT 1"):
+                    names -= _BEGUN
         if {states.CURRENT, *states.FOLDERS} <= names:
             raise _changed_by_others(self._path) if os.path.lexists(self._path) else CannotUpdate(f"{self._path} is missing; {_WAY_OUT}")
         if names:
             raise CannotUpdate(f"warcdx-update hasn't made all that is in {self.folder}, and doesn't use it")
         return False
 
+    def _is_filled(self) -> bool:
+        """Returns whether the database has the tables of an index. Raises CannotUpdate if others have changed them."""
+        (application,), (form,) = self._ask("PRAGMA application_id")[0], self._ask("PRAGMA user_version")[0]
+        if application != _APPLICATION or not self._ask("SELECT 1 FROM sqlite_master LIMIT 1"):
+            return False
+        if form != FORM:
+            raise CannotUpdate(f"another version of warcdx-update has made {self.folder}")
+        if not update_tables.are_whole(self._database):
+            raise _changed_by_others(self._path)
+        return True
+
     @contextlib.contextmanager
     def locked(self, settings: Settings) -> Iterator[None]:
         """Keeps other processes from the folder, makes it if there is none, and removes what an ended run of the command has left.
 
-        A folder that is made here is removed if nothing but the database was made.
+        What is made here is removed if nothing but the database was made. A folder that was there before stays.
         """
-        is_new = not self.is_made()
-        states.make_folder(self.folder)
+        self.is_made()  # so that nothing is made in a folder that is used otherwise
+        is_own = states.make_folder(self.folder)
         try:
             with self._connected(is_alone=True):
-                if is_new:
-                    self._make(settings)
-                settings.expect(self.noted.settings)
-                for name in states.FOLDERS:
-                    states.make_folder(f"{self.folder}/{name}")
-                self._recover()
+                is_new = not self._is_filled()  # another run may have filled it since
                 try:
-                    yield
-                finally:
-                    self.clear()
+                    if is_new:
+                        self._make(settings)
+                    settings.expect(self.noted.settings)
+                    for name in states.FOLDERS:
+                        states.make_folder(f"{self.folder}/{name}")
+                    self._recover()
+                    try:
+                        yield
+                    finally:
+                        self.clear()
+                except BaseException:
+                    if is_new:
+                        self._remove_unused()
+                    raise
         except BaseException:
-            if is_new:
-                self._remove_unused()
+            if is_own:
+                with contextlib.suppress(OSError):  # it isn't empty
+                    os.rmdir(self.folder)
             raise
 
     @contextlib.contextmanager
@@ -224,7 +237,6 @@ class Store:
             if set(os.listdir(self.folder)) <= _BEGUN:
                 for name in _BEGUN:
                     remove(f"{self.folder}/{name}")
-                os.rmdir(self.folder)
 
     def _recover(self) -> None:
         """Makes the last state if it isn't there, and removes what an ended run of the command has left."""
@@ -342,6 +354,8 @@ def _errors_of(path: str) -> Iterator[None]:
         said = str(error)
         if "is locked" in said:
             raise CannotUpdate("another process updates this index") from None
+        if "Could not decode" in said:  # a text that isn't UTF-8
+            raise _changed_by_others(path) from None
         for words, number in (("is full", errno.ENOSPC), ("readonly", errno.EACCES)):
             if words in said:
                 raise OSError(number, os.strerror(number), path) from None

@@ -5,10 +5,12 @@ So this module stands on the standard library alone. All that it is given and re
 """
 import bisect
 import contextlib
+import io
 import json
 import operator
 import os
 import re
+import select
 import stat
 import subprocess
 from collections import Counter
@@ -30,6 +32,7 @@ _FRONT = operator.itemgetter(slice(256))  # bytes of a value
 _PIECE = 1 << 20  # bytes
 _LARGEST = (1 << 63) - 1  # that SQLite has
 _ROOM = 1 << 16  # bytes, more than the block of a file that the program has begun
+_SILENCE = 5  # seconds without output of the program, and then its archives are checked
 
 Start = Callable[..., "subprocess.Popen[bytes]"]
 # The size of a file in bytes, the times of its last change and of its inode's in nanoseconds, and its inode.
@@ -60,18 +63,27 @@ def index_archives(
     `names` are their paths below `folder`. All are in the same folder, whose path stands in the index before their file names.
     Raises Failed or OSError, and then leaves no file. Several of which one can't be read fail together.
     """
-    states = [state_of(os.path.join(folder, name)) for name in names]
+
+    def find_states() -> list[State]:
+        return [state_of(os.path.join(folder, name)) for name in names]
+
+    def expect_no_change() -> None:
+        if find_states() != states:
+            raise Failed("the archive was changed while it was indexed")
+
+    states = find_states()
     with _new(output) as file:
         lines = _Lines(file, names)
         with _running((program, "index", *words, *(f"./{name}" for name in names)), folder, start) as (process, said):
             assert process.stdout is not None
-            for piece in _whole_lines(process.stdout):
+            for piece in _whole_lines(io.BufferedReader(_Watched(process.stdout, expect_no_change))):
                 lines.write(piece)
-            status, causes = _wait(process), _causes_of(said, names)
+            status, text = _wait(process), _text_of(said)
+        causes = _causes_of(text, names)
         if status not in (0, FAULT) or status and not any(causes.values()):
-            raise Failed(causes.get(names[0] if len(names) == 1 else "") or f"{program} has ended with status {status}")
-        if [state_of(os.path.join(folder, name)) for name in names] != states:
-            raise Failed("the archive was changed while it was indexed")
+            why = causes[names[0]] or text if len(names) == 1 else ""
+            raise Failed(why or f"{program} has ended with status {status}")
+        expect_no_change()
         written = lines.end()
         return written, [(name, state, causes[name], lines.captures[name]) for name, state in zip(names, states)]
 
@@ -247,6 +259,27 @@ def _running(
                 process.kill()
 
 
+class _Watched(io.RawIOBase):
+    """The output of a program. Each time that nothing has come for some seconds, `look` is called.
+
+    It raises an error if an archive isn't there any more. The program would wait for ever for who writes a pipe in its place.
+    """
+
+    def __init__(self, pipe: IO[bytes], look: Callable[[], None]) -> None:
+        self._number = pipe.fileno()
+        self._look = look
+        self._poll = select.poll()
+        self._poll.register(self._number, select.POLLIN)
+
+    def readable(self) -> bool:
+        return True
+
+    def readinto(self, room: "bytearray | memoryview") -> int:  # type: ignore[override]
+        while not self._poll.poll(_SILENCE * 1000):
+            self._look()
+        return os.readv(self._number, [room])
+
+
 def _wait(process: "subprocess.Popen[bytes]") -> int:
     """Waits for a program to end, and returns its status. Raises Failed if the system doesn't give it.
 
@@ -274,11 +307,13 @@ def _whole_lines(file: IO[bytes]) -> Iterator[bytes]:
         raise Failed("the last line isn't whole")
 
 
-def _causes_of(said: IO[bytes], names: Sequence[str]) -> dict[str, str]:
-    """Returns what a program has reported of each archive, without the names of both. Raises Failed if it has said more of several."""
-    text = _text_of(said)
+def _causes_of(text: str, names: Sequence[str]) -> dict[str, str]:
+    """Returns what a program has reported of each archive, without the names of both. Raises Failed if more is said of several.
+
+    More may be said by the system, as of a library that isn't there.
+    """
     if len(names) == 1:
-        return {names[0]: text.partition(f": ./{names[0]}: ")[2] or text}
+        return {names[0]: text.partition(f": ./{names[0]}: ")[2]}
     causes = dict.fromkeys(names, "")
     for line in filter(None, text.split("\n")):
         name, _, cause = line.partition(": ./")[2].rpartition(": ")

@@ -18,13 +18,24 @@ Task = Callable[..., Any]
 Outcomes = Iterator[tuple[int, Any]]  # the numbers of the arguments of a task, each with the result or the error, as they come
 
 
+_ENDING_WITH_STARTER = ("setpriv", "--pdeathsig", "KILL")  # in front of a program; some systems have a setpriv without this option
+
+
+def _runs(*command: str) -> bool:
+    """Returns whether a command succeeds."""
+    try:
+        return not subprocess.call(command, stdin=subprocess.DEVNULL, stdout=subprocess.DEVNULL, stderr=subprocess.DEVNULL)
+    except OSError:
+        return False
+
+
 class Threads:
     """Threads of this process, each of which runs one program at a time. The programs end with it, also if it is killed."""
 
     def __init__(self, jobs: int) -> None:
         self._jobs = jobs
         # A function that subprocess calls in the new process would do the same, but makes a start slower the more memory this process has.
-        self._front = ("setpriv", "--pdeathsig", "KILL") if shutil.which("setpriv") else ()
+        self._front = _ENDING_WITH_STARTER if _runs(*_ENDING_WITH_STARTER, "true") else ()
         self._lock = threading.Condition()
         self._running: set[subprocess.Popen[bytes]] = set()
         self._working = 0  # threads

@@ -1,6 +1,6 @@
 """Records of the usual form, which this process reads by itself. Of any other one the program has to decide.
 
-Whether a record is in order is decided by the program alone, by the rules of docs/RECORDS.md and docs/COMPRESSED.md.
+Whether a record is in order is decided by the program alone, by the rules of docs/RECORDS.md.
 The test here is narrower: a record that passes it is one that the program accepts too, with the same bytes, and almost
 all records of crawls pass it. Nothing here raises a fault. `None` says that the program is to be asked.
 """
@@ -129,16 +129,20 @@ def _checked(length: int, pieces: Iterator[bytes]) -> Iterator[bytes]:
 
 
 class ArchiveFile:
-    """An archive that is open to be read at any place. Raises OSError if it isn't a file, or can't be opened.
+    """An archive that is open to be read at any place. Raises OSError if it isn't a file, or can't be opened, or has no size.
 
     `size` is that of the file when it was opened, in bytes. `end` is the offset up to which records were yielded.
     """
 
     def __init__(self, path: str) -> None:
-        if not stat.S_ISREG(os.stat(path).st_mode):  # opening a pipe waits for who writes it
+        if not stat.S_ISREG(os.stat(path).st_mode):  # to open a pipe would be seen by who writes it
             raise OSError("not a regular file")
-        self._number = os.open(path, os.O_RDONLY | os.O_CLOEXEC)
-        self.size = os.fstat(self._number).st_size
+        self._number = os.open(path, os.O_RDONLY | os.O_CLOEXEC | os.O_NONBLOCK)  # a pipe may have taken its place
+        found = os.fstat(self._number)
+        self.size = found.st_size
+        if not self.size or not stat.S_ISREG(found.st_mode):  # or the system can't give the size, as of a file in /proc
+            self.close()
+            raise OSError("not a regular file of a size")
         self.end = 0
         self._next = 0  # the offset behind a record that was read in pieces
         self._start = 0  # the offset of the bytes that are held

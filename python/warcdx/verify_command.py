@@ -1,49 +1,60 @@
-"""Compares the digests of blocks and of payloads with the records of archives, plain and compressed.
+"""Compares the digests of blocks and of payloads with the records of archives.
 
-usage: warcdx-verify [--quiet] [--json] [-o REPORT] [--resume NOTES] [--jobs N] [--program PROGRAM] FILE..
+usage: warcdx-verify [OPTION..] FILE..
 
-FILE is an archive in WARC, plain or compressed with a member of gzip for each record; - is standard input. warcdx-verify
-compares the digests of each head: WARC-Block-Digest with the block, and WARC-Payload-Digest with the
-payload. The algorithms are sha1, sha256, sha512 and md5. Values are in base 32 or in hexadecimal digits.
+FILE is an archive in WARC, plain or compressed with a member of gzip for each
+record; - is standard input. Each record's WARC-Block-Digest is compared with
+the block, and its WARC-Payload-Digest with the payload. The algorithms are
+sha1, sha256, sha512 and md5. Values are in base 32 or in hexadecimal digits.
 
-For each record it prints the record's offset and the verdicts on both:
+Prints a line for each record, with its offset and the verdicts on both:
 
-same       the digest is that of the block or of the payload
-differs    the digest doesn't match
-unknown    the algorithm or the form of the value isn't known, or where the payload begins
-absent     the head has no such field
-elsewhere  the payload of a revisit or of a segment isn't in the record
-empty      a revisit has the digest of an empty block, as GNU Wget writes
+  OFFSET BLOCK PAYLOAD
 
-A damaged archive has `fault OFFSET CAUSE` as its last line. If there are several archives, a line
-`NAME:` precedes the lines of each. With --quiet, only records that differ and faults are printed,
-each as `NAME: ` and its line. With --json each line is an object with the members archive, offset,
-and block and payload or else fault.
+  same       the block or the payload has this digest
+  differs    the digest doesn't match
+  unknown    the algorithm or the form of the value isn't known, or where the
+             payload begins
+  absent     the header has no such field
+  elsewhere  the payload of a revisit or of a segment isn't in the record
+  empty      a revisit has the digest of an empty block, as GNU Wget writes
 
-The exit status is 0 if each archive is whole, none of its digests differs, and one at least is the
-same; 1 if not; 2 after a usage error; or 3 if a file can't be opened, or reading, writing, memory or
-the program failed.
+A damaged archive has `fault OFFSET CAUSE` as its last line. If there are
+several archives, a line `NAME:` precedes the lines of each. With --quiet, only
+records that differ and faults are printed, each as `NAME: ` and its line. With
+--json each line is an object with the members archive, offset, and block and
+payload or else fault.
+
+Examples:
+  warcdx-verify crawl.warc.gz
+  warcdx-verify --quiet --resume notes --jobs 4 /data/*.warc.gz
+
+Exit status:
+  0  each archive is whole, no digest differs, and one at least of each archive
+     was compared
+  1  an archive is damaged, a digest differs, or none of an archive was compared
+  2  usage error
+  3  a file can't be opened, or reading, writing, memory or the program failed
 """
 import argparse
 import contextlib
 import functools
 import json
 import os
-import sys
 from collections import Counter
-from collections.abc import Iterator, Sequence
+from collections.abc import Sequence
 from typing import BinaryIO, NamedTuple, Optional, Union
 
 from .advice import advice_on
 from .archive import Archive, open_archive
-from .command import FAILED, FAULTY, Parser, failure, line_of, number_from, printable, reason_of, report, run, status_of
+from .command import FAILED, FAULTY, Parser, failure, line_of, name_of_file, name_on_disk, number_from, run, status_of
 from .errors import Error, Fault
-from .faults import cannot_open
+from .inputs import read_again
 from .outputs import STANDARD, check_that_it_is_new, output_of
 from .progress import Lines, Silent, bar_on_terminal
 from .record_digests import Verdict
 from .resuming import CannotResume, Notes
-from .temporary import temporary_copy
+from .streams import printable, report
 from .verifying import Checked, check_archive
 from .workers import run_one_by_one, run_side_by_side
 
@@ -57,15 +68,17 @@ def read_arguments(arguments: Optional[Sequence[str]]) -> argparse.Namespace:
     parser.add_argument("--json", action="store_true", help="print each line as an object of JSON, with the name of the archive")
     parser.add_output("REPORT", "write the lines to this new file (default: standard output)")
     help_resume = "note which archives were good in this file, and pass over those that it names"
-    parser.add_argument("--resume", metavar="NOTES", help=help_resume)
+    parser.add_argument("--resume", type=name_on_disk, metavar="NOTES", help=help_resume)
     help_jobs = "how many archives to check at a time (%(default)s)"
     parser.add_argument("--jobs", type=number_from(1, 1000), default=1, metavar="N", help=help_jobs)
     help_program = "the program (%(default)s); for compressed archives warcdx-gz beside it, or of the PATH"
     parser.add_argument("--program", default="warcdx", metavar="PROGRAM", help=help_program)
-    parser.add_argument("files", nargs="+", metavar="FILE")
+    parser.add_argument("files", nargs="+", type=name_of_file, metavar="FILE", help="an archive; - is standard input")
     given = parser.parse(arguments)
     if given.files.count(STANDARD) > 1:
         parser.error("standard input (-) can be read once, and is given twice")
+    if given.output and given.resume and os.path.realpath(given.output) == os.path.realpath(given.resume):
+        parser.error("-o and --resume name the same file")
     return given
 
 
@@ -116,7 +129,7 @@ class Style(NamedTuple):
 def check(file: str, program: str, style: Style, output: BinaryIO) -> int:
     """Prints the records of an archive, and returns the exit status. Raises an Error if the program fails."""
     try:
-        with read_again(file) as path:
+        with read_again(file, is_held=True) as path:
             archive = open_archive(path, program=program)
             output.write(style.lines.heading)
             return print_archive(file, archive, program, style, output)
@@ -124,25 +137,6 @@ def check(file: str, program: str, style: Style, output: BinaryIO) -> int:
         error.file = error.file and file  # and not that of a copy
         report(NAME, line_of(error) + ("; name the archives in it" if os.path.isdir(file) else ""))
         return status_of(error)
-
-
-@contextlib.contextmanager
-def read_again(file: str) -> Iterator[str]:
-    """Yields the path of a file, or of a copy of one that can be read only once, such as a pipe. Raises CannotOpen."""
-    if file == STANDARD:
-        with temporary_copy(sys.stdin.buffer) as path:
-            yield path
-        return
-    try:
-        source = open(file, "rb", buffering=0)
-    except (OSError, ValueError) as error:
-        raise cannot_open(file, error.errno if isinstance(error, OSError) else None) from error
-    with source:
-        if source.seekable():
-            yield file
-            return
-        with temporary_copy(source) as path:
-            yield path
 
 
 def print_archive(file: str, archive: Archive, program: str, style: Style, output: BinaryIO) -> int:
@@ -226,7 +220,7 @@ class Run:
             if self._notes is not None:
                 self._notes.save()
         except OSError as error:
-            lost = _reason_without_notes(self._given.resume, error)
+            lost = f"{printable(self._given.resume)}: {error.strerror}"
         if lost and not self._lost:
             self._progress.clear()
             report(NAME, lost)
@@ -261,25 +255,17 @@ def _size_of(file: str) -> int:
         return 0
 
 
-def _reason_without_notes(file: str, error: OSError) -> str:
-    """Returns why notes can't be read or written."""
-    return f"{printable(file)}: {error.strerror}"
-
-
 def work(arguments: Optional[Sequence[str]], output: BinaryIO) -> int:
     given = read_arguments(arguments)
+    if given.output not in (None, STANDARD):
+        check_that_it_is_new(given.output)  # before notes are made
     try:
-        if given.output not in (None, STANDARD):
-            check_that_it_is_new(given.output)  # before notes are made
         archives = Run(given)
-    except FileExistsError as error:
-        report(NAME, reason_of(error))
-        return FAILED
     except CannotResume as error:
         return failure(NAME, error)
     except OSError as error:
-        report(NAME, _reason_without_notes(given.resume, error))
-        return FAILED
+        error.filename = given.resume  # and not where that leads
+        raise
     with output_of(given.output, output) as file:
         return archives.check_all(file)
 

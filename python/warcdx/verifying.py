@@ -5,7 +5,7 @@ from typing import NamedTuple
 
 from .archive import Archive
 from .codings import Unreadable
-from .faults import Read
+from .faults import NoRecord, Read
 from .record import Head
 from .record_digests import BlockCheck, Verdict
 from .reported import fault
@@ -44,7 +44,7 @@ def check_listed(archive: Archive, start: int = 0) -> Iterator[Checked]:
     try:
         for listed, record in archive.listed_streams(start):
             yield _checked(listed.offset, record.head, record.length, record.whole_block())
-    except Unreadable as error:
+    except (NoRecord, Unreadable) as error:
         raise Read("Read", archive.path) from error
 
 

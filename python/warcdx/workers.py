@@ -1,9 +1,12 @@
 """Work of a command that processes do side by side, with their outputs in order."""
 import contextlib
 import os
-import pathlib
+import resource
+import selectors
 import shutil
 import signal
+import tempfile
+import threading
 from collections.abc import Callable, Sequence
 from typing import IO, BinaryIO, NoReturn, Optional, Protocol
 
@@ -11,7 +14,6 @@ from .command import FAILED, failure, report, run
 from .ending import blocked
 from .errors import Error
 from .streams import write_error
-from .temporary import temporary_folder
 
 Work = Callable[[BinaryIO], int]
 
@@ -30,7 +32,8 @@ class Watch(Protocol):
 
 
 BROKEN = 64  # is added to the exit status of a process whose work has failed by an exception
-_MOST_SAID = 1 << 16  # bytes that a pipe holds
+_PIECE = 1 << 16  # bytes that are read at once
+_SPARE = 64  # files that each process may open besides those of the works
 
 
 def run_one_by_one(works: Sequence[Work], output: BinaryIO, watch: Watch) -> int:
@@ -48,30 +51,28 @@ def run_one_by_one(works: Sequence[Work], output: BinaryIO, watch: Watch) -> int
 def run_side_by_side(name: str, works: Sequence[Work], most: int, output: BinaryIO, watch: Watch, is_in_order: bool) -> int:
     """Runs each work of a command in a process of its own, at most `most` at a time. Returns the largest exit status.
 
-    Writes their outputs in the order of the works, or as they end. Until then they are in temporary files. A work that
-    fails by an exception is the last, and is reported.
+    Writes their outputs in the order of the works, or as they end. Until then they are in temporary files without names,
+    of which nothing stays however the command ends. A work that fails by an exception is the last, and is reported.
     """
-    with temporary_folder() as folder, contextlib.closing(_Workers(name, works, folder, watch)) as workers:
+    with contextlib.closing(_Workers(name, works, watch)) as workers:
         return workers.run_all(most, output, is_in_order)
 
 
 class _Workers:
     """The processes: those that run, and the exit statuses of those that have ended, by the numbers of their works."""
 
-    def __init__(self, name: str, works: Sequence[Work], folder: pathlib.Path, watch: Watch) -> None:
+    def __init__(self, name: str, works: Sequence[Work], watch: Watch) -> None:
         self._statuses: dict[int, int] = {}
         self._name = name
         self._works = works
-        self._folder = folder
         self._watch = watch
+        self._alive = os.pipe()  # nobody writes to it: its end says that this process is gone
         self._started = 0
-        self._running: dict[int, int] = {}  # the numbers of the works, by process IDs
-        self._errors: dict[int, IO[bytes]] = {}  # pipes from the standard errors of those that run
-        self._said: dict[int, bytes] = {}  # what those that have ended have written there
-
-    def _part(self, number: int) -> pathlib.Path:
-        """Returns the file with the output of a work."""
-        return self._folder / str(number)
+        self._running: dict[int, int] = {}  # the process IDs of those that run
+        self._errors = selectors.PollSelector()  # the pipes from their standard errors
+        self._said: dict[int, bytes] = {}  # what came from there
+        self._parts: dict[int, IO[bytes]] = {}  # the files with the outputs of works
+        self._most_open = resource.getrlimit(resource.RLIMIT_NOFILE)[0] - _SPARE
 
     def run_all(self, most: int, output: BinaryIO, is_in_order: bool) -> int:
         status = 0
@@ -79,11 +80,13 @@ class _Workers:
             number = self._next(turn if is_in_order else None, most)
             ended = self._statuses.pop(number)
             status = max(status, ended % BROKEN)
-            if self._said[number] or self._part(number).stat().st_size:
-                self._watch.clear()
-            self._move_output(number, output)
+            with self._parts.pop(number) as part:
+                if self._said[number] or part.seek(0, os.SEEK_END):
+                    self._watch.clear()
+                part.seek(0)
+                shutil.copyfileobj(part, output)
             output.flush()  # so that no process has a copy of what isn't written yet
-            self._report(number)
+            write_error(self._said.pop(number))
             if ended >= BROKEN:
                 break
             self._watch.end(number, ended)
@@ -97,65 +100,61 @@ class _Workers:
         return next(iter(self._statuses)) if number is None else number
 
     def _start_to(self, most: int) -> None:
-        """Starts processes until `most` run, or each work has one."""
+        """Starts processes until `most` run, or as many files are open as may be, or each work has a process."""
         while len(self._running) < most and self._started < len(self._works):
+            if self._running and len(self._running) + len(self._parts) >= self._most_open:
+                break
             self._watch.begin(self._started)
-            with blocked(), open(self._part(self._started), "wb") as part:
+            with blocked():
+                part = self._parts[self._started] = tempfile.TemporaryFile(buffering=0)
                 self._start(self._started, part.fileno())
                 self._started += 1
 
     def _start(self, number: int, part: int) -> None:
         """Starts the process of a work, whose output goes to the file descriptor `part`."""
         reading_end, writing_end = os.pipe()
-        self._errors[number] = open(reading_end, "rb", buffering=0)
+        self._errors.register(reading_end, selectors.EVENT_READ, number)
+        self._said[number] = b""
         try:
             identifier = os.fork()
             if not identifier:
                 self._work(number, part, writing_end)
         finally:
             os.close(writing_end)
-        self._running[identifier] = number
+        self._running[number] = identifier
 
     def _wait(self) -> None:
-        """Waits until a process ends. One that a signal has ended is reported, and has no output."""
-        found = os.waitid(os.P_ALL, 0, os.WEXITED | os.WNOWAIT)
-        assert found is not None
-        with blocked():
-            if found.si_pid in self._running:
-                self._end(found.si_pid)
-            else:  # what became this command had started it
-                os.waitpid(found.si_pid, 0)
+        """Reads what processes write to standard error, until one or more have written something or have ended."""
+        for pipe, _ in self._errors.select():
+            with blocked():
+                piece = os.read(pipe.fd, _PIECE)
+                self._said[pipe.data] += piece
+                if not piece:
+                    self._errors.unregister(pipe.fd)
+                    os.close(pipe.fd)
+                    self._end(pipe.data)
 
-    def _end(self, identifier: int) -> None:
-        """Takes the status of a process that has ended, and what it has said."""
-        number = self._running.pop(identifier)
-        status = os.waitstatus_to_exitcode(os.waitpid(identifier, 0)[1])
+    def _end(self, number: int) -> None:
+        """Takes the status of a process that has ended. One that a signal has ended is reported, and has no output."""
+        status = os.waitstatus_to_exitcode(os.waitpid(self._running.pop(number), 0)[1])
         if status < 0:
             report(self._name, f"a process has ended with signal {-status}")
-            os.truncate(self._part(number), 0)
-        with self._errors.pop(number) as error:
-            self._said[number] = error.read(_MOST_SAID)
+            self._parts[number].truncate(0)
         self._statuses[number] = BROKEN + FAILED if status < 0 else status
 
-    def _move_output(self, number: int, output: BinaryIO) -> None:
-        """Writes the output of a work, and removes its file."""
-        with open(self._part(number), "rb") as part:
-            shutil.copyfileobj(part, output)
-        os.remove(self._part(number))
-
-    def _report(self, number: int) -> None:
-        """Writes what a work has written to standard error, which is less than a pipe holds."""
-        write_error(self._said.pop(number))
-
     def close(self) -> None:
-        """Ends the processes that run."""
+        """Ends the processes that run, and closes their files."""
         with blocked():
-            for identifier in self._running:
+            for part in self._parts.values():
+                part.close()
+            for end in self._alive:
+                os.close(end)
+            for identifier in self._running.values():
                 os.kill(identifier, signal.SIGTERM)
-            for identifier in self._running:
+            for pipe in list(self._errors.get_map().values()):
+                os.close(pipe.fd)
+            for identifier in self._running.values():
                 os.waitpid(identifier, 0)
-            for error in self._errors.values():
-                error.close()
 
     def _work(self, number: int, part: int, said: int) -> NoReturn:
         """Does a work as a command of its own, whose standard output and error are these files."""
@@ -172,9 +171,17 @@ class _Workers:
             return status
 
         try:
+            os.close(self._alive[1])
+            with contextlib.suppress(RuntimeError):  # there is no memory for a thread
+                threading.Thread(target=self._end_with_parent, daemon=True).start()
             signal.pthread_sigmask(signal.SIG_SETMASK, ())
             os.dup2(part, 1)
             os.dup2(said, 2)
             status = run(self._name, work)
         finally:
             os._exit(status if is_done else BROKEN + status)
+
+    def _end_with_parent(self) -> None:
+        """Ends this process of a work once its parent is gone, as after a SIGKILL. Nobody would read what it finds."""
+        os.read(self._alive[0], 1)
+        os.kill(os.getpid(), signal.SIGTERM)
