@@ -1,6 +1,7 @@
 """The pages in headless Chromium: the way to a payload, the keyboard, names, hostile pages."""
 import asyncio
 import contextlib
+import html
 import socket
 import unittest
 from collections.abc import Sequence
@@ -204,7 +205,7 @@ class Hostile(support.Pages, unittest.IsolatedAsyncioTestCase):
 
     @property
     def hidden(self) -> list[tuple[bytes, str]]:
-        """Pages with tags that are read in one character set only, and the types of the pages."""
+        """Pages with tags that only some readers see, as by the character set or a comment, and the types of the pages."""
         tag = f"<!DOCTYPE html><title>x</title><link rel=preconnect href={self.deaf}><p>x"
         escapes = tag.replace("<link", "<li\x1b(Bnk").encode()
         return [
@@ -215,14 +216,24 @@ class Hostile(support.Pages, unittest.IsolatedAsyncioTestCase):
             (tag.replace("rel=", "rel=alternate rel=").encode(), "text/html"), (tag.replace("rel", "&#114;el").encode(), "text/html"),
             (tag.replace("preconnect", "pre&#99;onnect").encode(), "text/html"), (tag.replace("<link ", "<link\x0c").encode(), "text/html"),
             (f"<html xmlns='http://www.w3.org/1999/xhtml'><link rel='preconnect' href='{self.deaf}'/></html>".encode(), "text/xml"),
+            (tag.encode(), "text/plain, text/html"), (tag.encode(), "text/ht\x01ml"), (tag.encode(), "text/html\udce9"),
+            *((f"<!DOCTYPE html>{body}".encode(), "text/html") for body in self.misread(f"<link rel=preconnect href={self.deaf}>")),
+        ]  # fmt: skip
+
+    def misread(self, link: str) -> list[str]:
+        return [
+            f"<textarea><style></textarea>{link}</style>", f"<!-- <style> -->{link}</style>", f"<svg><style><p>{link}</style>",
+            link.replace("<link", "<li<link>nk"), link.replace(">", " rel=stylesheet>"), link.replace(">", " title=' rel=stylesheet '>"),
+            f"<iframe srcdoc='{html.escape(link)}'></iframe>", f"<iframe src={self.deaf}></iframe>",
+            f"<frameset><frame src={self.deaf}></frameset>", f"<iframe title='>' src={self.deaf}></iframe>",
         ]  # fmt: skip
 
     def fill(self, archives: Archives) -> None:
-        html = self.attacks()
+        attacks = self.attacks()
         date, self.names = "2016-03-03T00:00:00Z", ("html", "image", "svg", "xml", "split")
         archives.add("hostile.warc", [
-            response(HOME + "html", date, html),
-            response(HOME + "image", date, html, "image/png"),
+            response(HOME + "html", date, attacks),
+            response(HOME + "image", date, attacks, "image/png"),
             response(HOME + "svg", date, self.svg(), "image/svg+xml"),
             response(HOME + "xml", date, self.svg(), "application/xhtml+xml"),
             response(HOME + "linked", date, f"<p><a target=_blank href={HOME}hidden0>A link</a>".encode()),
@@ -233,7 +244,7 @@ class Hostile(support.Pages, unittest.IsolatedAsyncioTestCase):
             response(
                 HOME + "split",
                 date,
-                html,
+                attacks,
                 f"text/html\r\n\r\n<script>top.hacked=1</script>\r\nLocation: {self.evil}/split",
             ),
         ])  # fmt: skip

@@ -36,11 +36,14 @@ class Filling(unittest.TestCase):
             ('<img src="//example.com/b?c&amp;d">', f'<img src="{image},{base}/b?c&d">'),
             ("<img src=http://evil.example/x>", "<img src=http://evil.example/x>"),
             ("<img src=b srcset='c 2x'>", f'<img src="{image},{base}/a/b" srcset="">'),
-            ("<link rel=stylesheet href=s>", f'<link rel=stylesheet href="{style},{base}/a/s">'),
-            ("<link rel=next href=s.css>", ""),
-            ("a<LINK/rel=preconnect href=//evil.example>b", "ab"),
-            ("<link rel=\"stylesheet preload\" href=s>c", "c"),
-            ("<link rel=preconnect x=" + "y" * 70_000 + ">d", "d"),
+            ("<link rel=stylesheet href=s>", f'<link rel="stylesheet" href="{style},{base}/a/s">'),
+            ("<link href='s' title='a \"x\" src=c' MEDIA=print rel='Alternate stylesheet' onload=x>",
+             f'<link rel="alternate stylesheet" href="{style},{base}/a/s" media="print" title="a &quot;x&quot; src=c">'),
+            ("<link rel=next href=s.css>", "<meta>"),
+            ("a<LINK/rel=preconnect href=//evil.example>b", "a<meta>b"),
+            ("<link rel=\"stylesheet preload\" href=s>c", "<meta>c"),
+            ("<link rel=preconnect x=" + "y" * 70_000 + ">d", "<meta>d"),
+            ("<img alt='x src=c href=d' src=b>", f"<img alt='x src=c href=d' src=\"{image},{base}/a/b\">"),
             ("<a href=b.png>", "<a href=b.png>"),
             ("<script src=b.js>", "<script src=b.js>"),
             ("<base href='/c/'><img src=b>", f"<base href='/c/'><img src=\"{image},{base}/c/b\">"),
@@ -53,6 +56,29 @@ class Filling(unittest.TestCase):
              f'<table style="background:url({image},{base}/a/b)">'),
         ):  # fmt: skip
             self.assertEqual(wanted.encode(), filled(given.encode(), HOME, named), given)
+
+    def test_no_element_makes_a_browser_connect(self) -> None:
+        """Whatever a browser takes for a tag, a text or a comment."""
+        link, evil = "<link rel=preconnect href=//evil.example>", "//evil.example"
+        for given, wanted in (
+            (f"<textarea><style></textarea>{link}</style>", "<textarea><style></textarea><meta></style>"),
+            (f"<!-- <style> -->{link}</style>", "<!-- <style> --><meta></style>"),
+            (f"<svg><style><p>{link}</style>", "<svg><style><p><meta></style>"),
+            (f"<style>{link}", "<style><meta>"),
+            (f"<img alt='<style>'>{link}</style>", "<img alt='<style>'><meta></style>"),
+            (f"<li<link>nk rel=preconnect href={evil}>", f"<li<meta>nk rel=preconnect href={evil}>"),
+            (f"<link rel=preconnect href={evil} rel=stylesheet>", "<meta>"),
+            (f"<link rel=preconnect href={evil} title=' rel=stylesheet '>", "<meta>"),
+            (f"<link title=' rel=stylesheet ' rel=preconnect href={evil}>", "<meta>"),
+            (f"<link title='>' rel=preconnect href={evil}>", f"<meta>' rel=preconnect href={evil}>"),
+            (f"<iframe srcdoc='&lt;link rel=preconnect href={evil}&gt;'></iframe>", "<iframe hidden></iframe>"),
+            (f"<IFRAME\tsrc={evil}/x>a", "<iframe hidden>a"),
+            (f"<iframe title='>' src={evil}>", f"<iframe hidden>' src={evil}>"),
+            (f"<frameset><frame src={evil}><frame/src={evil}></frameset>", "<frameset><frame><frame></frameset>"),
+            (f"<ifr<iframe>ame src={evil}>", f"<ifr<iframe hidden>ame src={evil}>"),
+            ("<p>a <linked> b", "<p>a <linked> b"),
+        ):
+            self.assertEqual(wanted.encode(), filled(given.encode(), HOME, lambda url, kind: None), given)
 
     def test_links_lead_to_captures(self) -> None:
         def linked(url: str) -> str:
@@ -106,7 +132,8 @@ class Filling(unittest.TestCase):
             b"<link rel=stylesheet ", b"<style>url(", b"<img src='", b'<img src="',
             b"<base href=a/>",
             b"<table style=url(", b"<td style='url(a", b"&#", b" src", b" src ", b'@import "',
-            b"@import  ", b"<a href=b>", b"<a ", b"<link rel=", b"<a href='",
+            b"@import  ", b"<a href=b>", b"<a ", b"<link rel=", b"<a href='", b"<link ", b"<iframe ", b"<iframe>",
+            b"<link>", b"<li<link>nk ", b"a=", b" a =", b"' ",
         ):  # fmt: skip
             for before in (b"", b"<style>", b"<img "):
                 start = time.process_time()

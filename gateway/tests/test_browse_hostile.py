@@ -205,7 +205,8 @@ class Records(support.Pages):
         for name, each in self.all.items():
             self.offsets[name] = at
             length = str(len(each))
-            lines.append(archives.line(HOME + name, "20160303000000", "a.warc", at, length=length))
+            address = MARKUP if name == "address" else HOME + name
+            lines.append(archives.line(address, "20160303000000", "a.warc", at, length=length))
             at += len(each)
         archives.put("index", b"".join(sorted(lines)))
 

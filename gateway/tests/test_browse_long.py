@@ -20,7 +20,7 @@ class LongRecords(support.Pages):
     def fill(self, archives: Archives) -> None:
         size = 3 << 30
         path = archives.archives / "long.warc"
-        head = record("resource", HOME, "2016-03-03T00:00:00Z", b"", "text/plain", ["WARC-Block-Digest: sha1:" + "A" * 32])
+        head = record("resource", HOME, "2016-03-03T00:00:02Z", b"", "text/plain", ["WARC-Block-Digest: sha1:" + "A" * 32])
         with open(path, "wb") as file:
             file.write(head[:-4].replace(b"Content-Length: 0", b"Content-Length: %d" % size))
             file.truncate(file.tell() + size)
@@ -28,7 +28,7 @@ class LongRecords(support.Pages):
             file.write(b"\r\n\r\n")
         start = record("resource", HOME, "2016-03-03T00:00:00Z", bytes(100), "text/plain")[:-4]
         (archives.archives / "bomb.warc.gz").write_bytes(bomb(start.replace(b": 100", b": %d" % size)))
-        small = response(HOME, "2016-03-03T00:00:00Z", page("small"))
+        small = response(HOME, "2016-03-03T00:00:01Z", page("small"))
         (archives.archives / "two.warc.gz").write_bytes(bomb(small + start.replace(b": 100", b": %d" % (16 << 30))))
         lengths = {"bomb.warc.gz": "-", "two.warc.gz": "-", "long.warc": str(path.stat().st_size)}
         lines = (

@@ -197,6 +197,9 @@ class Paths(Shared):
         wayback = self.xml("/main?q=type:urlquery+url:http%3A%2F%2Fexample.net%2F", 404)
         self.assertEqual("Resource Not In Archive", wayback.findtext("error/title"))
         self.assertTrue(self.refused("/main?q=type:urlquery").startswith("refused NoUrl"))
+        for value in ("0", "10001", "0000000001", f"000000001{'0' * 5000}", "x", "1.", "-1"):
+            self.assertTrue(self.refused(f"/main?q=type:urlquery+{url}&start_page={value}").startswith("refused BadLimit"), value[:20])
+            self.assertTrue(self.refused(f"/main?q=type:urlquery+{url}+limit:{value}").startswith("refused BadLimit"), value[:20])
         before = processor_time(self.server)
         self.assertTrue(self.refused(f"/main?q={'a' * 60_000}").startswith("refused NoUrl"))
         self.assertLess(processor_time(self.server) - before, 2)

@@ -191,7 +191,7 @@ class Refusals(Shared):
     def test_the_parameter_is_named(self) -> None:
         for query, wanted in (
             ("", "NoUrl: url: it is missing"),
-            ("url=a&page2=0", "Unknown: page2: there is no such parameter"),
+            ("url=a&page2=0", "Unknown: page2: there is no such parameter; a & in a URL is written as %26"),
             ("url=a&limit=-0", "BadLimit: limit=-0: it is a number"),
             ("url=a&limit=200000&sort=reverse", "BadLimit: limit=200000: in this order it is at most 100000"),
             ("url=a&url=b", "RepeatedParameter: url: it may be given once"),

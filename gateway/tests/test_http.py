@@ -1,11 +1,13 @@
 """HTTP: keep-alive, HEAD, OPTIONS, CORS, tags, compression, limits, health and metrics."""
 import os
 import pathlib
+import re
 import socket
 import subprocess
 import unittest
 from unittest import mock
 
+from . import browse_support
 from .support import COMMAND, PROGRAM, ROOT, SAMPLE, WAIT, Case, Shared, connected, lines
 
 from warcdx_gateway.settings import CollectionSettings, Settings, checked
@@ -45,6 +47,38 @@ class Http(Shared):
                 client.send(f"GET /cdx?{query}&fl=length HTTP/1.1\r\nHost: localhost\r\n\r\n".encode())
                 client.socket.shutdown(socket.SHUT_WR)
                 self.assertEqual(200, client.response().status)
+
+    def test_a_body_is_whole_and_short(self) -> None:
+        """What is left of a query that was cut would be another one."""
+        form = "POST /cdx HTTP/1.1\r\nHost: localhost\r\nContent-Type: application/x-www-form-urlencoded\r\n"
+        body = b"url=example.com/a&fl=length&filter=length:300"
+        chunk = b"%x\r\n%s\r\n" % (1 << 16, b"&" * (1 << 16))
+        for field, sent, status in (
+            (f"Content-Length: {len(body)}", body, 200), (f"Content-Length: {len(body) + 1}", body, 400),
+            (f"Content-Length: {len(body) + 9}", b"", 400), ("Transfer-Encoding: chunked", b"2d\r\n" + body + b"\r\n0\r\n\r\n", 200),
+            ("Transfer-Encoding: chunked", b"2d\r\n" + body[:9], 400), ("Transfer-Encoding: chunked", b"2d\r\n" + body + b"\r\n", 400),
+            ("Content-Length: 131073", b"", 413), (f"Content-Length: {'9' * 30}", body, 413), ("Transfer-Encoding: chunked", chunk * 3, 413),
+            *((f"Transfer-Encoding: {coding}", body, 400) for coding in ("xchunked", "gzip, chunked", "chunked, identity", "\x0bchunked")),
+        ):  # fmt: skip
+            with connected(self.server) as client:
+                client.send(f"{form}{field}\r\n\r\n".encode() + sent)
+                client.socket.shutdown(socket.SHUT_WR)
+                self.assertEqual(status, client.response().status, (field, sent[:50]))
+        with connected(self.server) as client:
+            client.send(b"POST /wayback/available HTTP/1.1\r\nHost: localhost\r\nContent-Length: 40\r\n\r\nurl=example.com")
+            client.socket.shutdown(socket.SHUT_WR)
+            self.assertEqual(400, client.response().status)
+        self.assertEqual("", self.server.said.read_text())
+
+    def test_a_target_may_name_the_server(self) -> None:
+        for scheme in ("http", "HTTP", "Https"):
+            for path, status in (
+                ("/cdx?url=example.com/a", 200),
+                ("/web/2016/http://example.com/", 302),
+                ("/web/timemap/link/example.com", 200),
+            ):
+                found = self.server.ask(f"{scheme}://localhost{path}")
+                self.assertEqual(status, found.status, (scheme, path))
 
     def test_head_has_the_fields_of_get(self) -> None:
         for target in ("/cdx?url=example.com", "/cdx?url=example.com&filter=statuscode:2..", "/cdx?url=a&x=1"):
@@ -173,6 +207,17 @@ class Limits(Case):
             backwards = [server.ask(f"{target}&page={number}&filter=length:.*").body for number in reversed(range(count))]
             self.assertEqual(whole, b"".join(reversed(backwards)))
         self.assertEqual(self.page("url=example.com/*&fl=offset", index), server.ask("/cdx?url=example.com/*&fl=offset").body)
+
+
+class Counts(unittest.TestCase):
+    def test_statuses_that_only_archives_have_are_counted_together(self) -> None:
+        """Otherwise their counts would need a file that grows."""
+        metrics = browse_support.metrics()
+        for status in (200, 404, 418, 421, *range(520, 600), *range(230, 290)):
+            metrics.count("counted", str(status))
+        found = [line for line in metrics.text().decode().splitlines() if 'requests_total{collection="counted"' in line]
+        statuses = {re.findall('status="(...)"', line)[0]: float(line.rpartition(" ")[2]) for line in found}
+        self.assertEqual({"200": 1, "404": 1, "418": 1, "421": 1, "5xx": 80, "2xx": 60}, statuses)
 
 
 class Defaults(unittest.TestCase):

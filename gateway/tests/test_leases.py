@@ -317,6 +317,24 @@ class Served(Case):
         self.assertEqual(SMALL_BODY, server.ask(SMALL).body)
         self.assertEqual("", server.said.read_text())
 
+    def test_a_disk_that_is_full_later_ends_nothing(self) -> None:
+        """All files are made at the start, those of later workers too."""
+        runtime = self.folder / "runtime"
+        runtime.mkdir()
+        with mock.patch.dict(os.environ, {"RUNTIME_DIRECTORY": str(runtime)}):
+            server = self.start(head="workers = 3\nwide = 2\n")
+        before = sorted(runtime.rglob("*"))
+        self.assertEqual(200, server.ask(DEAR).status)
+        for worker in server.workers():
+            os.kill(worker, signal.SIGKILL)
+        self.wait_for(lambda: len(server.workers()) == 3, "no workers")
+        self.assertEqual(200, server.ask(DEAR).status)
+        old = server.workers()
+        server.process.send_signal(signal.SIGHUP)
+        self.wait_for(lambda: server.workers() and not set(old) & set(server.workers()), "the workers are the old ones")
+        self.assertEqual(200, server.ask(DEAR).status)
+        self.assertEqual(before, sorted(runtime.rglob("*")))
+
     def test_a_request_that_waits_keeps_its_body(self) -> None:
         """Also if a part of it is sent later."""
         server = self.start(head="workers = 2\nwide = 1\n")

@@ -264,6 +264,12 @@ class Raw(support.Pages):
                 )
                 for name in ("secure", "later", "alone")
             ),
+            *(
+                response(f"http://example.com/{name}", DATE, b"", status="301 Moved Permanently", http=[f"Location: {target}"])
+                for name, target in (
+                    ("itself", "http://example.com/itself"), ("itself-in-other-words", "./itself-in-other-words#x"), ("nothing-else", ""),
+                )
+            ),
             response("https://example.com/secure", DATE, b"secure"),
             response("https://example.com/later", LATER, b"secure"),
             response(
@@ -350,8 +356,9 @@ class Raw(support.Pages):
             self.assertEqual(f"http://localhost/crawl/{wanted}", location)
             answer = self.client.get(location.removeprefix("http://localhost"))
             self.assertEqual((200, b"secure"), (answer.status_code, answer.data))
-        answer = self.raw("http://example.com/alone")
-        self.assertEqual((301, None), (answer.status_code, answer.headers.get("Location")))
+        for name in ("alone", "itself", "itself-in-other-words", "nothing-else"):
+            answer = self.raw(f"http://example.com/{name}")
+            self.assertEqual((301, None), (answer.status_code, answer.headers.get("Location")), name)
 
     def test_a_revisit_has_the_payload_of_its_original(self) -> None:
         answer = self.raw(PAGE, "20170101000000")
@@ -409,7 +416,7 @@ class Raw(support.Pages):
                     continue
                 self.assertEqual((410, "text/html; charset=utf-8"), (answer.status_code, answer.content_type))
                 link = f'<a href="/crawl/{stamp}/http://example.com/next">'.replace('"/', '"http://localhost/')
-                self.assertEqual(f"{link}é</a>", answer.text)
+                self.assertEqual(f"<meta>{link}é</a>", answer.text)
                 self.assertTrue(answer.headers["Content-Security-Policy"].startswith("sandbox; default-src 'none'"))
                 self.assertEqual("off", answer.headers["X-DNS-Prefetch-Control"])
                 self.assertIn("Memento-Datetime", answer.headers)

@@ -182,7 +182,8 @@ def wanted_of(found: Capture, captures: list[Capture]) -> Optional[Wanted]:
         head = found if found.profile == IDENTICAL and found.has_head else original
     fields = dict(head.fields)
     status = 200 if head.status is None else SENT.get(head.status, head.status)
-    location = f"/crawl/{found.stamp}id_/{head.location}" if 300 <= status < 400 and head.location else ""
+    is_moved = 300 <= status < 400 and head.location not in ("", found.url)  # a capture never leads to itself
+    location = f"/crawl/{found.stamp}id_/{head.location}" if is_moved else ""
     kind = fields.get("Content-Type", "application/octet-stream")
     return Wanted(status, body.payload, kind, fields.get("X-Note", ""), location, body.coding)
 

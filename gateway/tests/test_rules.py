@@ -11,18 +11,17 @@ import re
 import tempfile
 import unittest
 from collections.abc import Callable
-from typing import Any, NamedTuple
+from typing import NamedTuple
 from unittest import mock
 from urllib.parse import quote_plus, urlsplit
 
 from werkzeug.test import Client, TestResponse
 
 from warcdx_gateway.application import Gateway
-from warcdx_gateway.rules import Action, RulesFile, rules_of
-from warcdx_gateway.settings import BadSettings, CollectionSettings, Settings
+from warcdx_gateway.rules import RulesFile, rules_of
+from warcdx_gateway.settings import CollectionSettings, Settings
 
 from .browse_support import PROGRAM, Archives, gateway_of, page, response, revisit
-from .support import SAMPLE, Case, Shared
 
 REQUESTS = int(os.environ.get("GATEWAY_REQUESTS", "1500"))
 SEED = int(os.environ.get("GATEWAY_SEED", "1"))
@@ -265,132 +264,6 @@ class Random(unittest.TestCase):
                 times = {each.timestamp for each in self.lines if each.key == line.key and not rule.holds(each)}
                 if line.timestamp not in times:
                     self.assertNotIn(f"/{line.timestamp}id_/", listed)
-
-
-class Files(Case):
-    def text(self, rules: str) -> bytes:
-        return RulesFile(self.put(rules, "rules"), PROGRAM, ["main", "other"]).text
-
-    def test_what_a_rule_is(self) -> None:
-        text = self.text(
-            '[[rules]]\naction = "metadata"\ncollection = "other"\nfrom = "2016"\n'
-            '[[rules]]\naction = "exclude"\ndomain = "Example.COM"\n'
-            '[[rules]]\naction = "metadata"\nprefix = "example.org/a"\n'
-        )
-        main, other = rules_of(text, "main"), rules_of(text, "other")
-        for rules, key, timestamp, wanted in (
-            (main, "com,example)/", "20160101000000", Action.EXCLUDE),
-            (main, "com,example:81)/", "20160101000000", Action.EXCLUDE),
-            (main, "com,example,www)/", "20160101000000", Action.EXCLUDE),
-            (main, "com,examples)/", "20160101000000", Action.SHOW),
-            (main, "org,example)/ab", "20160101000000", Action.METADATA),
-            (main, "org,example)/b", "20160101000000", Action.SHOW),
-            (other, "org,example)/b", "20160101000000", Action.METADATA),
-            (other, "org,example)/b", "20151231235959", Action.SHOW),
-        ):
-            self.assertEqual(wanted, rules.action(key, timestamp, "-"), key)
-
-    def test_a_file_that_is_no_rules_is_refused(self) -> None:
-        good = '[[rules]]\naction = "exclude"\n'
-        for text, said in (
-            ("[[rules]", "rules: "),
-            ("x = 1\n", "it has [[rules]] and nothing else"),
-            (good, "rule 1: it names nothing"),
-            (f'{good}url = "a.example"\n{good}hots = "a"\n', "rule 2: there is no 'hots'"),
-            ('[[rules]]\nurl = "a.example"\n', "rule 1: 'action' has to be one of metadata, exclude"),
-            (f'{good}url = "a.example"\nhost = "a.example"\n', "it has more than one of url"),
-            (f'{good}url = "http://["\n', "it isn't an address: http://["),
-            (f"{good}url = 1\n", "'url' has to be a text on one line"),
-            (f'{good}from = "x"\n', "'from' has to be 1 to 14 digits"),
-            (f"{good}embargo = 0\n", "'embargo' has to be a number of days"),
-            (f"{good}embargo = true\n", "'embargo' has to be a number of days"),
-            (f'{good}collection = "nosuch"\n', "there is no such collection"),
-        ):
-            with self.assertRaises(BadSettings) as caught:
-                self.text(text)
-            self.assertIn(said, str(caught.exception))
-
-    def test_many_rules_cost_little(self) -> None:
-        text = self.text("".join(f'[[rules]]\naction = "exclude"\nurl = "http://example.com/{n}"\n' for n in range(20_000)))
-        rules = rules_of(text, "main")
-        rows = [[f"com,example)/{n}", "20160101000000", "-", "-", "-", "-"] for n in range(40_000)]
-        self.assertEqual(20_000, len(rules.shown(rows, Action.SHOW)))
-
-
-class Served(Case):
-    def rows(self, server: Any) -> int:
-        found = server.ask("/cdx?url=example.com&matchType=domain&fl=offset")
-        self.assertEqual(200, found.status)
-        return int(found.text.count("\n"))
-
-    def test_rules_are_read_again_when_they_change(self) -> None:
-        """One that is broken opens nothing, also for a worker that is started after it broke."""
-        self.put(SAMPLE)
-        path = self.put("", "rules.toml")
-        server = self.start('rules = "rules.toml"\n[collections.main]\nindexes = ["index"]\n')
-        self.assertEqual(8, self.rows(server))
-        path.write_text('[[rules]]\naction = "exclude"\nhost = "example.com"\n')
-        self.wait_for(lambda: self.rows(server) == 1, "the rules aren't read")
-        for broken in ("[", '[[rules]]\naction = "include"\nhost = "example.com"\n', None):
-            count = server.said.read_text().count("the old rules stay in use")
-            if broken is None:
-                path.unlink()
-            else:
-                path.write_text(broken)
-            self.wait_for(lambda: server.said.read_text().count("the old rules stay in use") > count, "nothing is said")
-            for worker in server.workers():
-                os.kill(worker, 9)
-            self.wait_for(lambda: len(server.workers()) == 3, "no workers")
-            for _ in range(12):
-                self.assertEqual(1, self.rows(server))
-        path.write_text("")
-        self.wait_for(lambda: self.rows(server) == 8, "the rules aren't read")
-
-    def test_a_gateway_does_not_start_with_broken_rules(self) -> None:
-        self.put(SAMPLE)
-        path = self.put("[", "rules.toml")
-        settings = self.put(f'port = 0\nprogram = "{PROGRAM}"\nrules = "rules.toml"\n[collections.main]\nindexes = ["index"]\n', "settings")
-        server = self.run_command(str(settings))
-        self.assertEqual(1, server.process.wait(60))
-        self.assertIn(f"warcdx-gateway: {path}: ", server.said.read_text())
-
-    def test_the_answer_that_a_client_has_is_another_one(self) -> None:
-        self.put(SAMPLE)
-        path = self.put('[[rules]]\naction = "exclude"\nkey = "x"\n', "rules.toml")
-        server = self.start('rules = "rules.toml"\n[collections.main]\nindexes = ["index"]\n')
-        tag = server.ask("/cdx?url=example.com").fields["etag"]
-        self.assertEqual(304, server.ask("/cdx?url=example.com", If_None_Match=tag).status)
-        path.write_text('[[rules]]\naction = "exclude"\nhost = "example.com"\n')
-        self.wait_for(lambda: server.ask("/cdx?url=example.com", If_None_Match=tag).status == 200, "it is an old answer")
-        self.assertEqual(b"", server.ask("/cdx?url=example.com", If_None_Match=tag).body)
-
-
-class Unlisted(Shared):
-    settings = '[collections.open]\nindexes = ["index"]\n[collections.private]\nindexes = ["index"]\nlisted = false\n'
-
-    def test_it_is_in_no_list(self) -> None:
-        for path in ("/", "/browse", "/collinfo.json"):
-            for kind in ("text/html", "text/plain"):
-                found = self.server.ask(path, Accept=kind)
-                shown = found.fields.get("location", found.text)
-                self.assertIn("open", shown)
-                self.assertNotIn("private", shown)
-
-    def test_its_paths_have_one_front(self) -> None:
-        unknown = self.server.ask("/nosuch-index?url=example.com")
-        for path in ("/private-index", "/private-cdx", "/private"):
-            found = self.server.ask(f"{path}?url=example.com")
-            self.assertEqual((404, unknown.body), (found.status, found.body))
-            self.assertEqual(200, self.server.ask(f"{path.replace('private', 'open')}?url=example.com").status)
-        for path in ("/private/index", "/private/cdx", "/private/"):
-            self.assertEqual(200, self.server.ask(f"{path}?url=example.com").status)
-
-    def test_it_can_not_be_the_main_one(self) -> None:
-        from warcdx_gateway.settings import settings_of
-
-        table = {"collections": {"a": {"indexes": ["x"], "listed": False}}}
-        with self.assertRaises(BadSettings):
-            settings_of(table, self.folder)
 
 
 if __name__ == "__main__":

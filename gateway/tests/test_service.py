@@ -2,6 +2,7 @@
 import base64
 import os
 import pathlib
+import re
 import shutil
 import signal
 import socket
@@ -215,6 +216,52 @@ class Nginx(Case):
         self.assertGreaterEqual(connections(self.port), count // 2)  # those that take nothing
         for client in silent:
             client.close()
+
+
+@unittest.skipIf(NGINX is None, "nginx is missing (Debian's package nginx-light)")
+class Contained(Case):
+    """nginx with the files of the container, behind a server that has TLS."""
+
+    def setUp(self) -> None:
+        super().setUp()
+        self.port, container = free_port(), ROOT / "gateway/container"
+        self.listener = self.enterContext(socket.create_server(("127.0.0.1", 0)))  # in the place of the gateway
+        self.listener.settimeout(WAIT)
+        (words,) = re.findall(r"RUN sed -i (.*?) /etc/nginx/", (container / "Containerfile").read_text(), re.DOTALL)
+        site = subprocess.run(f"sed {words} {SERVICE}/nginx.conf", shell=True, stdout=subprocess.PIPE, text=True, check=True).stdout
+        for old, new in (
+            ("server 127.0.0.1:8081;", f"server 127.0.0.1:{self.listener.getsockname()[1]};"),
+            ("listen 8080;", f"listen 127.0.0.1:{self.port};"),
+        ):
+            self.assertIn(old, site)
+            site = site.replace(old, new)
+        self.put(site, "site.conf")
+        folders = "".join(f"{name}_temp_path {self.folder}/{name};\n" for name in ("client_body", "proxy", "fastcgi", "uwsgi", "scgi"))
+        main = (container / "nginx-main.conf").read_text()
+        main = main.replace("/run/nginx/nginx.pid", f"{self.folder}/pid").replace("/etc/nginx/conf.d/*.conf", f"{self.folder}/site.conf")
+        main = main.replace("access_log off;", f"access_log off;\n{folders}")
+        process = subprocess.Popen(
+            (str(NGINX), "-p", self.folder, "-c", self.put(main, "nginx.conf"), "-e", "stderr"), stderr=subprocess.PIPE
+        )
+        self.addCleanup(Nginx.end, process)
+        self.wait_for(lambda: not socket.socket().connect_ex(("127.0.0.1", self.port)), "nginx doesn't answer")
+
+    def passed_on(self, fields: str) -> str:
+        """Returns the head of a request as the gateway gets it."""
+        with socket.create_connection(("127.0.0.1", self.port), timeout=WAIT) as client:
+            client.sendall(f"GET /cdx HTTP/1.1\r\nHost: localhost\r\n{fields}\r\n".encode())
+            gateway, _ = self.listener.accept()
+            with gateway:
+                return gateway.recv(1 << 16).decode()
+
+    def test_the_server_in_front_says_who_asks_and_by_which_scheme(self) -> None:
+        for fields, address, scheme in (
+            ("X-Forwarded-For: 198.51.100.7\r\nX-Forwarded-Proto: https\r\n", "198.51.100.7", "https"),
+            ("X-Forwarded-For: 203.0.113.9, 198.51.100.7\r\nX-Forwarded-Proto: gopher\r\n", "198.51.100.7", "http"),
+            ("", "127.0.0.1", "http"),
+        ):
+            found = self.passed_on(fields)
+            self.assertIn(f"X-Forwarded-For: {address}\r\nX-Forwarded-Proto: {scheme}\r\n", found)
 
 
 def connections(port: int) -> int:

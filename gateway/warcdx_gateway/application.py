@@ -1,21 +1,16 @@
 """The WSGI application: its paths, and what every answer has."""
-import contextlib
-import errno
 import functools
 import importlib
 import json
 import re
-import socket
-import struct
 import time
 from collections.abc import Callable, Generator, Iterable, Iterator, Mapping
-from dataclasses import dataclass
 from typing import Any, Optional
 from urllib.parse import urlsplit
 from wsgiref.types import StartResponse, WSGIApplication, WSGIEnvironment
 
 from gunicorn.http.errors import ChunkMissingTerminator, InvalidChunkSize, NoMoreData
-from werkzeug.exceptions import HTTPException, NotFound
+from werkzeug.exceptions import HTTPException, NotFound, RequestEntityTooLarge
 from werkzeug.routing import Map, Rule
 from werkzeug.wrappers import Request, Response
 
@@ -28,6 +23,7 @@ from .plan import Plan, plan_of
 from .refusal import TEXT, Refusal, http_response, program_refusal, say, text_of
 from .rows import Output
 from .rules import Action, rules_of
+from .sending import Headers, Sent, streamed
 from .settings import Settings, is_loopback
 from .shared import Board, Metrics
 from .waiting import address_of
@@ -37,6 +33,7 @@ METHODS = ("GET", "HEAD")
 BAD_BODIES = (ChunkMissingTerminator, InvalidChunkSize, NoMoreData)
 # What links begin with, as browsers read it: no other character may stand in it.
 HOST = re.compile(r"([A-Za-z0-9._-]+|\[[0-9A-Fa-f:.]+\])(:[0-9]{1,5})?")
+ORIGIN = re.compile(r"^[A-Za-z][A-Za-z0-9+.-]*://[^/?]*")  # before the path in the line of a request
 FORM = "application/x-www-form-urlencoded"
 KINDS = {Output.TEXT: TEXT, Output.JSON: "application/json", Output.CDXJ: TEXT, Output.LINES: "text/x-ndjson; charset=utf-8"}
 # The paths of the main collection in the form of the Internet Archive.
@@ -50,11 +47,19 @@ TRIES = 4  # to have the files of the master, in a look
 AGAIN = 0.05  # seconds after which they are tried again
 
 Handler = Callable[..., WSGIApplication]  # of the gateway, a request and the values of its path
-Headers = list[tuple[str, str]]
 
 
 class GatewayRequest(Request):
-    max_content_length = MOST_BODY
+    @functools.cached_property
+    def body(self) -> bytes:
+        """The body as it was sent. Raises Refusal if it is cut, or RequestEntityTooLarge."""
+        size = self.content_length
+        found = b"" if (size or 0) > MOST_BODY else self.stream.read(MOST_BODY + 1)
+        if max(size or 0, len(found)) > MOST_BODY:
+            raise RequestEntityTooLarge(f"a body has at most {MOST_BODY} bytes")
+        if len(found) < (size or 0):
+            raise bad_body()
+        return found
 
     @property
     def query_text(self) -> str:
@@ -64,7 +69,7 @@ class GatewayRequest(Request):
         """
         try:
             if self.method == "POST" and self.mimetype == FORM:
-                parts = self.query_string, self.get_data(cache=True)
+                parts = self.query_string, self.body
                 return "&".join(part.decode() for part in parts if part)
             return self.query_string.decode()
         except UnicodeDecodeError:
@@ -108,13 +113,18 @@ class Gateway:
     def look(self) -> None:
         """Goes on with the files that the master has taken into use."""
         now = time.monotonic()
-        if now - self._looked < LOOKS:
-            return
-        self._looked = now
+        if now - self._looked >= LOOKS:
+            self._look_again()
+            self._looked = now
+        for each in self.collections.values():
+            each.rules.begin()
+
+    def _look_again(self) -> None:
         if (text := self._rules_board.read()) != self._rules:
+            found = {name: rules_of(text, name) for name in self.collections}
+            for name, rules in found.items():
+                self.collections[name].rules = rules
             self._rules = text
-            for name, each in self.collections.items():
-                each.rules = rules_of(text, name)
         for _ in range(TRIES):  # while the master goes on to other files
             if self._has_followed():
                 break
@@ -199,13 +209,13 @@ class Gateway:
 
         def begin(status: str, headers: Headers, *rest: Any) -> Any:
             """Begins an answer with what each one has."""
-            self.metrics.requests.labels(name, status[:3]).inc()
+            self.metrics.count(name, status[:3])
             headers.append(("X-Content-Type-Options", "nosniff"))
             if name and self.settings.origins:
                 headers += self._sharing(environ.get("HTTP_ORIGIN", ""), headers)
             return start_response(status, headers, *rest)
 
-        return Sent(self, environ, start, answer(environ, begin))
+        return Sent(self.work, self.metrics, environ, start, answer(environ, begin))
 
     def _answer(self, request: GatewayRequest) -> tuple[str, WSGIApplication]:
         """Returns the name of the collection, if there is one, and what answers."""
@@ -224,8 +234,8 @@ class Gateway:
             name = values.get("collection", self.settings.main if is_main else "")
             name = name if name in self.collections else ""
             is_listed = not name or self.collections[name].settings.listed
-            if not is_listed and not path.startswith(f"/{name}/"):
-                # So a server in front can close it by the front of its paths.
+            if not is_listed and not sent_path(request).startswith(f"/{name}/"):
+                # So a server in front can close it by the front of its paths, also one that compares them as they are sent.
                 name = ""
                 raise NotFound("there is no such collection")
             handler: Any = found.endpoint
@@ -244,7 +254,7 @@ class Gateway:
         elif isinstance(error, ReplyTooLate):
             error = Refusal("TooSlow", "", "it takes too long; restrict the query", status=503)
         elif isinstance(error, BAD_BODIES):
-            error = Refusal("BadBody", "", "the body of the request can't be read")
+            error = bad_body()
         elif isinstance(error, (ReplyTooLong, MemoryError)):
             error = Refusal("TooLarge", "", "it takes too much memory; restrict the query")
         if isinstance(error, Refusal):
@@ -264,7 +274,7 @@ class Gateway:
         if self.settings.is_local and is_loopback(host):
             return
         if host not in self.settings.hosts and "*" not in self.settings.hosts:
-            raise Refusal("Host", "Host", "this server has another name", host, status=421)
+            raise Refusal("Host", "Host", "this server has another name; its setting hosts has those that it takes", host, status=421)
 
     def _sharing(self, origin: str, headers: Headers) -> Iterator[tuple[str, str]]:
         """Yields the headers with which a page of an origin may read an answer, if it may.
@@ -281,48 +291,14 @@ class Gateway:
             yield "Vary", "Origin"
 
 
-@dataclass(eq=False)
-class Sent:
-    """An answer as gunicorn sends it. One that fails is broken off, so that it is seen."""
+def bad_body() -> Refusal:
+    return Refusal("BadBody", "", "the body of the request can't be read")
 
-    gateway: Gateway
-    environ: WSGIEnvironment
-    start: float
-    pieces: Iterable[bytes]
-    is_whole: bool = False
 
-    def __iter__(self) -> Iterator[bytes]:
-        try:
-            for piece in self.pieces:
-                self.gateway.work.beat()
-                self.gateway.metrics.bytes.inc(len(piece))
-                yield piece
-            self.is_whole = True
-        except (ConnectionError, GeneratorExit):
-            raise  # the client has left
-        except BaseException as error:
-            self.is_whole = True  # it is counted here
-            self._break(error)
-            if not isinstance(error, Exception):
-                raise
-            # gunicorn closes the connection then, and says nothing.
-            raise BrokenPipeError(errno.EPIPE, "an answer was broken off") from None
-
-    def close(self) -> None:
-        if not self.is_whole:
-            self.gateway.metrics.broken.labels("client left").inc()
-        close = getattr(self.pieces, "close", None)
-        if close is not None:
-            close()
-        self.gateway.metrics.seconds.observe(time.monotonic() - self.start)
-
-    def _break(self, error: BaseException) -> None:
-        self.gateway.metrics.broken.labels(type(error).__name__).inc()
-        say(f"an answer was broken off: {text_of(error)}")
-        found = self.environ.get("gunicorn.socket")
-        if found is not None and self.environ.get("SERVER_PROTOCOL") == "HTTP/1.0":
-            # Without chunks, the end of the connection would be that of the answer.
-            found.setsockopt(socket.SOL_SOCKET, socket.SO_LINGER, struct.pack("ii", 1, 0))
+def sent_path(request: Request) -> str:
+    """Returns the path as it was sent, with its escapes and its query."""
+    sent = str(request.environ.get("RAW_URI") or request.environ.get("REQUEST_URI") or "")
+    return ORIGIN.sub("", sent, count=1)
 
 
 def rule(path: str, handler: Handler, methods: Iterable[str] = METHODS) -> Rule:
@@ -359,38 +335,6 @@ def own_metrics(gateway: Gateway, request: GatewayRequest) -> Response:
 def show_metrics(gateway: Gateway) -> Response:
     kind = "text/plain; version=0.0.4; charset=utf-8"
     return Response(gateway.metrics.text(), content_type=kind)
-
-
-def streamed(pieces: Generator[bytes, None, None], headers: Headers, work: Work) -> WSGIApplication:
-    """Returns an answer whose pieces are made when they are sent.
-
-    The first ones are made at once. So what fails until then has a status, and a short answer has
-    a length.
-    """
-    begun, size = list[bytes](), 0
-    for piece in pieces:
-        begun.append(piece)
-        size += len(piece)
-        if size > MOST_FREE:
-            work.expect_slot()
-            return answer_of(headers, joined(begun, pieces))
-    return answer_of([*headers, ("Content-Length", str(size))], [b"".join(begun)])
-
-
-def answer_of(headers: Headers, pieces: Iterable[bytes]) -> WSGIApplication:
-    """Returns an answer of captures in pieces."""
-
-    def answer(environ: WSGIEnvironment, start_response: StartResponse) -> Iterable[bytes]:
-        start_response("200 OK", headers)
-        return () if environ["REQUEST_METHOD"] == "HEAD" else pieces
-
-    return answer
-
-
-def joined(begun: list[bytes], pieces: Generator[bytes, None, None]) -> Iterator[bytes]:
-    with contextlib.closing(pieces):
-        yield from begun
-        yield from pieces
 
 
 def is_unchanged(request: Request, headers: Mapping[str, str]) -> bool:

@@ -133,7 +133,7 @@ def xml_query(gateway: Gateway, collection: Collection, sent: "MultiDict[str, st
     limit = given.get("limit") or sent.get("count") or str(MOST_RESULTS)
     page = sent.get("start_page") or "1"
     for name, value in (("limit", limit), ("start_page", page)):
-        if not (is_number(value) and 0 < int(value[:9]) <= MOST_RESULTS):
+        if not (is_number(value) and len(value) <= 9 and 0 < int(value) <= MOST_RESULTS):
             raise Refusal("BadLimit", name, f"it is a number from 1 to {MOST_RESULTS}", value)
     first = (int(page) - 1) * int(limit)
     if not given.get("url"):
@@ -175,7 +175,7 @@ def available(gateway: Gateway, request: GatewayRequest) -> Response:
     A POST has a query on each line, and `results` in the order of the lines.
     """
     if request.method == "POST":
-        lines = [line for line in request.get_data(as_text=True).split("\n") if line.strip()]
+        lines = [line for line in request.body.decode(errors="replace").split("\n") if line.strip()]
         if len(lines) > MOST_ASKED:
             raise Refusal("TooMany", "url", f"a request has at most {MOST_ASKED} lines")
         asked = [MultiDict(parse_qsl(line.strip())) for line in lines]

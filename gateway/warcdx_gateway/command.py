@@ -1,16 +1,24 @@
-"""The command warcdx-gateway.
+"""Serves indexes over HTTP to clients of Wayback CDX servers and to browsers.
 
-usage: warcdx-gateway [OPTION]... SETTINGS
-       warcdx-gateway [OPTION]... --indexes INDEX.. [--archives FOLDER..]
+usage: warcdx-gateway [OPTION..] --indexes INDEX.. [--archives FOLDER..]
+       warcdx-gateway [OPTION..] SETTINGS
 
-Answers the clients of Wayback CDX servers over indexes, by HTTP. SETTINGS is a file in TOML with
-the collections. With --indexes there is one collection, named main.
+With --indexes there is one collection, named main. If you have several, or want
+other settings, SETTINGS is a file in TOML with the collections.
 
-Prints the address when it answers. SIGTERM ends it after the answers that are being sent, and SIGHUP
-makes it read SETTINGS again.
-The exit status is 0 after a signal; 1 if the settings or an index are at fault; 2 after a usage error;
-or 3 if a file can't be opened, the address can't be used, a package is missing, or the program, memory
-or standard output failed. One line says why.
+It prints its address when it answers. SIGTERM ends it after the answers that
+are being sent, and SIGHUP makes it read SETTINGS again.
+
+Examples:
+  warcdx-gateway --indexes all.cdxj --archives /data
+  curl 'http://127.0.0.1:8080/cdx?url=example.com'
+
+Exit status:
+  0  a signal has ended it
+  1  the settings or an index are at fault
+  2  usage error
+  3  a file can't be opened, the address can't be used, a package is missing, or
+     the program, memory or standard output failed
 """
 import dataclasses
 import pathlib

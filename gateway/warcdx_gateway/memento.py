@@ -14,9 +14,9 @@ from werkzeug.wrappers import Request, Response
 
 from warcdx import Capture
 
-from .application import Gateway, rule
+from .application import Gateway, rule, sent_path
 from .browse import embedding, responses
-from .browse.raw_captures import RawCapture, Window
+from .browse.raw_captures import VARY, RawCapture, Window
 from .history import MOST, History, last_moment, quoted
 from .parameters import is_number
 
@@ -119,9 +119,7 @@ class Resource:
 
 def url_of(request: Request, segments: int) -> str:
     """Returns the URL behind the first segments of the path, as it was sent and with its query."""
-    sent = str(request.environ.get("RAW_URI") or request.environ.get("REQUEST_URI") or "")
-    path = re.sub(r"^[a-z]+://[^/]*", "", sent, count=1)
-    path = path.removeprefix(request.environ.get("SCRIPT_NAME", ""))
+    path = sent_path(request).removeprefix(request.environ.get("SCRIPT_NAME", ""))
     parts = path.encode("latin-1", "replace").decode(errors="replace").split("/", segments + 1)
     return parts[segments + 1] if len(parts) == segments + 2 else ""
 
@@ -136,7 +134,7 @@ def time_gate(gateway: Gateway, request: Request, collection: str, sent: str) ->
             return capture_of(gateway, request, collection, found[2], found[1], "")
         resource = Resource(gateway, request, collection, found[2])
         target = f"{resource.root}/{found[1]}id_/{escaped(resource.url)}"
-        return redirect(target, {"Vary": "Sec-Fetch-Dest"})
+        return redirect(target, {"Vary": ", ".join(VARY)})
     if found := _CALENDAR.fullmatch(sent):
         resource = Resource(gateway, request, collection, found[2])
         year = f"&year={found[1][:4]}" if len(found[1]) >= 4 else ""
@@ -203,7 +201,8 @@ def raw_capture(gateway: Gateway, request: Request, collection: str, sent: str, 
 
 def is_window(request: Request) -> bool:
     """Returns whether a browser asks for what it shows in a window or in a frame."""
-    return request.headers.get("Sec-Fetch-Dest") in WINDOWS
+    named, navigates = (request.headers.get(name) for name in VARY)
+    return named in WINDOWS if named is not None else navigates == "1"
 
 
 def capture_of(gateway: Gateway, request: Request, collection: str, sent: str, timestamp: str, mark: str) -> Response:
@@ -249,7 +248,7 @@ def _capture_of(resource: Resource, capture: Capture, target: str) -> str:
     history = History(resource.history.ask, url=url)
     if history.nearest(capture.timestamp, url) == capture:
         other = history.where("original", url).nearest(capture.timestamp)
-        return resource.memento(other) if other else ""
+        return resource.memento(other) if other and other != capture else ""
     return f"{resource.root}/{capture.timestamp}id_/{escaped(url)}"
 
 

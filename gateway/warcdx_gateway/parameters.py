@@ -147,7 +147,7 @@ class Given:
         if name == "fields" and self.form is Form.PYWB:
             name = "fl"
         if name not in KNOWN:
-            raise Refusal("Unknown", name, "there is no such parameter")
+            raise Refusal("Unknown", name, "there is no such parameter; a & in a URL is written as %26")
         if not value and name not in EMPTY:
             return  # an empty field of a form
         if name in SINGLE:
@@ -201,10 +201,6 @@ class Given:
         if url.startswith("*."):
             return "domain", url[2:]
         return ("prefix", url[:-1]) if url.endswith("*") else ("exact", url)
-
-    def is_one_key(self) -> bool:
-        """Returns whether the match is `exact`."""
-        return self.match()[0] == "exact"
 
 
 def translated(query: str) -> str:

@@ -224,7 +224,7 @@ def sort_of(given: Given) -> Order:
     if sort == "closest" and "closest" not in values:
         raise Refusal("BadSort", "closest", "sort=closest needs it")
     if "closest" in values and sort != "reverse":
-        if not given.is_one_key():
+        if given.match()[0] != "exact":
             raise given.bad("BadSort", "closest", "it is for the captures of one address")
         return Order.CLOSEST
     return Order.REVERSE if sort == "reverse" else Order.FORWARD

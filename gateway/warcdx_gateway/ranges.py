@@ -130,7 +130,7 @@ class Range:
 
     def at(self, place: bytes) -> Positions:
         """Returns the position before the first line of the range whose place isn't below this one."""
-        return self._at(place, self.starts, self.ends)
+        return [each.first(place, low, high) for each, low, high in zip(self.files, self.starts, self.ends)]
 
     def after(self, count: int) -> Positions:
         """Returns the position of the first place before which the range has `count` bytes or more.
@@ -174,6 +174,3 @@ class Range:
         """Returns the place of the last line. The range isn't empty."""
         ends = zip(self.files, self.starts, self.ends)
         return max(each.last_before(end) for each, start, end in ends if start < end)
-
-    def _at(self, place: bytes, lows: Positions, highs: Positions) -> Positions:
-        return [each.first(place, low, high) for each, low, high in zip(self.files, lows, highs)]

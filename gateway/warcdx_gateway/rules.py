@@ -1,4 +1,5 @@
 """What may not be shown: rules of a file, which are applied to each row and each record."""
+import base64
 import contextlib
 import datetime
 import enum
@@ -9,6 +10,7 @@ import os
 import pathlib
 import re
 import signal
+import time
 import tomllib
 from collections.abc import Collection as Container
 from collections.abc import Iterable, Iterator, Sequence
@@ -27,8 +29,14 @@ TARGETS = ("url", "prefix", "host", "domain", "key")
 TEXTS = ("collection", "from", "to", "digest", *TARGETS)
 WEB = ("http://", "https://")
 _SCHEME = re.compile(r"[A-Za-z][A-Za-z0-9+.-]*:")
+SETTLED = 2.0  # seconds for which a file has stayed as it is before it is read again
 _STAMP = re.compile("[0-9]{1,14}")
-_DIGEST = re.compile("(?:sha1:)?([!-~]+)", re.IGNORECASE)
+_DIGEST = re.compile("[!-~]+")
+_HEX_OF_SHA1 = re.compile("[0-9A-F]{40}")
+# How the key of a web URL begins.
+_OF_WEB = re.compile(r"(?:\[[^]/)]*\]|[^][/:)]+)(?::[0-9]+)?\)")
+# The host in a key that is a URL itself, or a text such as `dns:example.com` or `screenshot:http://example.com/`.
+_HOST = re.compile(r"(?:.*?[a-z]://|[a-z][a-z0-9+.-]*:)(?:[^/?#]*@)?(?:www[0-9]*\.)?(\[[^]/?#]*\]|[^][/?#:]+)")
 
 
 class Action(enum.IntEnum):
@@ -56,7 +64,7 @@ class Rule(NamedTuple):
     digest: str = ""
 
     def holds(self, timestamp: str, digest: str, today: datetime.date) -> bool:
-        """Returns whether it is for a capture of one of its keys."""
+        """Returns whether it is for a capture of one of its keys, with a plain digest."""
         if self.digest and digest != self.digest:
             return False
         if self.first and timestamp[: len(self.first)] < self.first:
@@ -67,7 +75,7 @@ class Rule(NamedTuple):
 
 
 class Rules:
-    """The rules of one collection. `tag` changes with what they show."""
+    """The rules of one collection. `tag` changes with what they show. For one request it is one day."""
 
     def __init__(self, rules: Iterable[Rule] = ()) -> None:
         self._exact: dict[str, list[Rule]] = {}
@@ -87,6 +95,13 @@ class Rules:
         self._of_key = functools.lru_cache(256)(self._find)
         self._digest = hashlib.sha256(repr(self._all).encode()).hexdigest()[:20]
         self._has_embargo = any(rule.embargo for rule in self._all)
+        self._has_digest = any(rule.digest for rule in self._all)
+        self._day = today()
+
+    def begin(self) -> None:
+        """Is called when a request begins, which shows what its day does."""
+        if self._has_embargo:
+            self._day = today()
 
     def __bool__(self) -> bool:
         return bool(self._all)
@@ -95,16 +110,16 @@ class Rules:
     def tag(self) -> str:
         if not self._all:
             return ""
-        return self._digest + (today().isoformat() if self._has_embargo else "")
+        return self._digest + (self._day.isoformat() if self._has_embargo else "")
 
     def action(self, key: str, timestamp: str, digest: str) -> int:
         """Returns what a capture may be: the strictest of the rules that are for it."""
-        rules = self._of_key(key)
-        if self._digests:
+        rules, found = self._of_key(key), 0
+        if self._has_digest:
+            digest = plain_digest(digest)
             rules = [*rules, *self._digests.get(digest, ())]
-        day, found = today(), 0
         for rule in rules:
-            if rule.action > found and rule.holds(timestamp, digest, day):
+            if rule.action > found and rule.holds(timestamp, digest, self._day):
                 found = rule.action
         return found
 
@@ -116,12 +131,10 @@ class Rules:
 
     def _find(self, key: str) -> list[Rule]:
         found = [*self._others, *self._exact.get(key, ())]
-        for length in self._lengths:
-            found += self._fronts.get(key[:length], ()) if length <= len(key) else ()
+        for text in filter(None, (key, host_key_of(key))):
+            for length in self._lengths:
+                found += self._fronts.get(text[:length], ()) if length <= len(text) else ()
         return found
-
-
-ALL_SHOWN = Rules()
 
 
 class RulesFile:
@@ -135,16 +148,25 @@ class RulesFile:
         self._path = path
         self._program = program
         self._collections = collections
-        self._seen = self._identity()
+        self._seen = self._read_at = self._identity()
+        self._since = 0.0  # when it was first seen as it is
         self.text = b"[]" if path is None else self._read(path)
 
     def look(self) -> None:
-        """Reads the file again if it has changed. One that can't be read changes no rules."""
-        if self._path is None or (found := self._identity()) == self._seen:
+        """Reads the file again if it has changed, and nobody writes to it. One that can't be read changes no rules."""
+        if self._path is None:
             return
-        self._seen = found
+        found, now = self._identity(), time.monotonic()
+        if found != self._seen:
+            self._seen, self._since = found, now
+        if found == self._read_at or now - self._since < SETTLED:
+            return
+        self._read_at = found
         try:
-            self.text = self._read(self._path)
+            text = self._read(self._path)
+            if self._identity() != found:
+                return  # it is another one by now
+            self.text = text
             say(f"{self._path}: the rules were read again")
         except BadSettings as error:
             say(f"the old rules stay in use: {error}")
@@ -160,7 +182,10 @@ class RulesFile:
 
     def _read(self, path: pathlib.Path) -> bytes:
         try:
-            tables = tomllib.loads(path.read_bytes().decode())
+            content = path.read_bytes()
+            if not content and self._since:  # as where a full disk has cut it
+                raise BadSettings("it is empty: rules = [] says that there are none")
+            tables = tomllib.loads(content.decode())
             with _waiting():
                 return text_of(tables, self._program, self._collections)
         except OSError as error:
@@ -214,7 +239,7 @@ def check(number: int, table: dict[str, Any], collections: Container[str]) -> No
     expect(type(embargo) is int and 0 < embargo < 1_000_000, "'embargo' has to be a number of days")
     for name in ("from", "to"):
         expect(bool(_STAMP.fullmatch(table.get(name, "0"))), f"'{name}' has to be 1 to 14 digits")
-    expect(bool(_DIGEST.fullmatch(table.get("digest", "0"))), "'digest' can't be one")
+    expect(bool(_DIGEST.fullmatch(plain_digest(table.get("digest", "0")))), "'digest' can't be one")
     expect(table.get("collection", "") in ("", *collections), "there is no such collection")
     expect(len(table) > 1, "it names nothing")
     expect(sum(name in table for name in TARGETS) < 2, f"it has more than one of {', '.join(TARGETS)}")
@@ -235,7 +260,6 @@ def rule_of(table: dict[str, Any], keys: dict[str, str]) -> Rule:
     if "host" in table or "domain" in table:
         host = front.partition(")")[0]
         found = [host + end for end in (")", ":", ",")[: 2 + ("domain" in table)]]
-    digest = _DIGEST.fullmatch(table.get("digest", ""))
     return Rule(
         ACTIONS[table["action"]],
         table.get("collection", ""),
@@ -244,8 +268,22 @@ def rule_of(table: dict[str, Any], keys: dict[str, str]) -> Rule:
         table.get("from", ""),
         table.get("to", ""),
         table.get("embargo", 0),
-        digest[1] if digest else "",
+        plain_digest(table.get("digest", "")),
     )
+
+
+def plain_digest(text: str) -> str:
+    """Returns a digest as others are compared with it: that of SHA-1 in base 32 and without its name, in capitals."""
+    digest = text.upper().removeprefix("SHA1:")
+    return base64.b32encode(bytes.fromhex(digest)).decode() if _HEX_OF_SHA1.fullmatch(digest) else digest
+
+
+def host_key_of(key: str) -> str:
+    """Returns how the key of a web URL would begin with the host that is in another key, or no text."""
+    found = None if _OF_WEB.match(key) else _HOST.match(key.lower())
+    host = found[1].rstrip(".") if found else ""
+    is_address = host.startswith("[") or host.replace(".", "").isdigit()
+    return f"{host if is_address else ','.join(reversed(host.split('.')))})" if host else ""
 
 
 def keys_by_url(program: str, urls: Sequence[str]) -> dict[str, str]:
@@ -276,3 +314,6 @@ def day_before(day: datetime.date, days: int) -> str:
         return f"{day - datetime.timedelta(days):%Y%m%d}".rjust(8, "0")
     except OverflowError:
         return "00000000"
+
+
+ALL_SHOWN = Rules()

@@ -2,6 +2,7 @@
 import errno
 import fcntl
 import hashlib
+import http
 import mmap
 import os
 import pathlib
@@ -16,6 +17,7 @@ from prometheus_client.metrics import Counter, Gauge, Histogram
 BEATS = 0.25  # seconds between two beats
 FILE = 1 << 16  # bytes of a file of counts, as prometheus_client makes it
 MOST_SEATS = 4096  # workers that run at a time
+STATUSES = frozenset(http.HTTPStatus)  # that are counted by themselves, as an archive may have any other
 BOUNDS = (0.005, 0.01, 0.025, 0.05, 0.1, 0.25, 0.5, 1.0, 2.5, 5.0, 10.0, 30.0)  # seconds
 
 
@@ -42,11 +44,14 @@ class Beat:
 class Slots:
     """Files, each of which is locked by at most one process.
 
-    The system gives a slot back when its process ends, however it ends.
+    The system gives a slot back when its process ends, however it ends. The first files, `ready` of
+    them, are made at once, as the disk may be full later.
     """
 
-    def __init__(self, folder: pathlib.Path, name: str, count: int) -> None:
+    def __init__(self, folder: pathlib.Path, name: str, count: int, ready: int) -> None:
         self._paths = [folder / f"{name}-{number}" for number in range(count)]
+        for path in self._paths[:ready]:
+            path.touch()
 
     def take(self) -> Optional[tuple[int, BinaryIO]]:
         """Returns the number of a slot that was free and its open file, or None."""
@@ -105,7 +110,7 @@ class Metrics:
 
     def __init__(self, folder: pathlib.Path, workers: int = 1) -> None:
         self._folder = folder
-        self._seats = Slots(folder, "seat", MOST_SEATS)
+        self._seats = Slots(folder, "seat", MOST_SEATS, 2 * workers)
         self._seat = "master"
         for seat in ("master", *map(str, range(2 * workers))):
             for kind in ("counter", "gauge_max", "histogram"):
@@ -134,6 +139,10 @@ class Metrics:
         self.seconds = Histogram(
             "warcdx_gateway_request_seconds", "Seconds from a request to the end of its answer.", registry=registry, buckets=BOUNDS
         )
+
+    def count(self, collection: str, status: str) -> None:
+        """Counts a request by its status, or by the first digit of one that HTTP doesn't have."""
+        self.requests.labels(collection, status if int(status) in STATUSES else f"{status[0]}xx").inc()
 
     def sit(self) -> None:
         """Takes a seat, in a new worker."""

@@ -104,8 +104,8 @@ class Shares:
 
     def __init__(self, folder: pathlib.Path, waiting: Waiting, wide: int, wait: float) -> None:
         self.waiting = waiting
-        self._slots = Slots(folder, "wide", wide)
-        self._turn = Slots(folder, "turn", 1)
+        self._slots = Slots(folder, "wide", wide, wide)
+        self._turn = Slots(folder, "turn", 1, 1)
         self._wide = wide
         self._wait = wait
         self._queues = mmap.mmap(-1, 1 + wide)  # the last one, and that of each slot, 0 for none

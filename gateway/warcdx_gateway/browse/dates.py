@@ -10,6 +10,7 @@ MONTHS = (
 DAYS = ("Monday", "Tuesday", "Wednesday", "Thursday", "Friday", "Saturday", "Sunday")
 _TYPED = re.compile(r"(\d{4})(?:-?(\d\d)(?:-?(\d\d))?)?", re.ASCII)
 _TIMESTAMP = re.compile(r"\d{14}", re.ASCII)
+_FIRST = "00000101000000"  # of a timestamp whose first digits replace these
 
 
 def day_of(digits: str) -> Optional[datetime.date]:
@@ -52,9 +53,10 @@ def machine_time(timestamp: str) -> Optional[str]:
 
 
 def timestamp_of(date: str) -> Optional[str]:
-    """Returns the timestamp of a value of WARC-Date, or None."""
+    """Returns the timestamp of a value of WARC-Date, whose last parts may be absent, or None."""
     digits = re.sub(r"\D", "", date.partition(".")[0])
-    return digits if _TIMESTAMP.fullmatch(digits) else None
+    filled = digits + _FIRST[len(digits) :]
+    return filled if len(digits) >= 4 and _TIMESTAMP.fullmatch(filled) else None
 
 
 def digits_of(typed: str) -> str:

@@ -2,8 +2,8 @@
 
 A browser lets a payload fetch nothing. So each URL of an image or a style sheet becomes a `data:`
 URL with the payload of the nearest capture of it. Links to other pages may lead to their captures.
-Elements `link` but for style sheets go, as a browser would connect to a server for some of them.
-Other URLs stay as they are, and lead nowhere.
+Elements `link` but for style sheets go, and frames are empty, as a browser would connect to a
+server for some of them. Other URLs stay as they are, and lead nowhere.
 """
 import base64
 import functools
@@ -39,9 +39,11 @@ _IMAGES = frozenset(
 )
 # Tags with attributes that have the URL of an image or a style sheet.
 _TAG = re.compile(rb"<(img|input|link|source|body|table|td|th|style|base|a|area)(?=[\s/>])", re.IGNORECASE)
-_ATTRIBUTE = re.compile(
-    rb"""(?<=[\s"'/])(src|href|background|srcset|rel|style|target)\s*=\s*""" rb"""("[^"]*"|'[^']*'|[^\s"'>]+)""", re.IGNORECASE
-)
+_ATTRIBUTE = re.compile(rb"""(?<=[\s"'/])([^\s"'/=<>]+)\s*=\s*("[^"]*"|'[^']*'|[^\s"'>]+)""")
+# Elements for which browsers connect to servers, whatever the policy of the page is, and what takes the place of each.
+_CONNECTING = re.compile(rb"<(link|iframe|frame)(?=[\s/>])", re.IGNORECASE)
+_REPLACED = {b"link": b"<meta>", b"iframe": b"<iframe hidden>", b"frame": b"<frame>"}
+_KEPT = ("rel", "href", "media", "title", "type")  # attributes of a style sheet
 _MARKS = ((b"\xef\xbb\xbf", "utf-8-sig"), (b"\xff\xfe", "utf-16"), (b"\xfe\xff", "utf-16"))
 _LATIN = "windows-1252"  # which browsers take for these names, and for none
 _LATIN_NAMES = ("iso-8859-1", "us-ascii")
@@ -138,27 +140,23 @@ def page_text(content: bytes, charset: Optional[str]) -> str:
 def filled(page: bytes, base: str, url: Url, linked: Optional[Linked] = None) -> bytes:
     """Returns a page in which the URLs of images and style sheets are those that `url` returns.
 
-    The page is read once, from tag to tag. An attribute `srcset` is left empty, and `target` is
-    left out of links.
+    The page is read from tag to tag. An attribute `srcset` is left empty, and `target` is left out
+    of links.
     """
+    page = unconnected(page)
     done, at, has_base = [], 0, False
     while found := _TAG.search(page, at):
         end = page.find(b">", found.end())
         if end < 0:
             break
         name, tag = found[1].lower(), page[found.end() : end]
-        is_long = end - found.end() > MOST_TAG
-        if name == b"link" and (is_long or not is_style_sheet(tag)):
-            done.append(page[at : found.start()])
-            at = end + 1
-            continue
-        if is_long:
+        if len(tag) > MOST_TAG:
             done.append(page[at:end])
             at = end
             continue
         done += page[at : found.end()], _tag(name, tag, base, url, linked)
         at = end
-        if name == b"base" and not has_base and (href := attributes_of(tag).get(b"href")):
+        if name == b"base" and not has_base and (href := attributes_of(tag).get("href")):
             base, has_base = joined(base, href), True
         elif name == b"style":
             close = _END_OF_STYLE.search(page, end)
@@ -168,8 +166,39 @@ def filled(page: bytes, base: str, url: Url, linked: Optional[Linked] = None) ->
     return b"".join(done)
 
 
-def attributes_of(tag: bytes) -> dict[bytes, str]:
-    return {found[1].lower(): text_of(found[2]) for found in _ATTRIBUTE.finditer(tag)}
+def unconnected(page: bytes) -> bytes:
+    """Returns a page without what makes a browser connect to a server.
+
+    What only seems to be such a tag, as in a comment, is replaced too, since a browser may read it
+    otherwise. A tag is replaced and never left out: what is around it could become one.
+    """
+    done, at = list[bytes](), 0
+    while (found := _CONNECTING.search(page, at)) and (end := page.find(b">", found.end())) >= 0:
+        name, tag = found[1].lower(), page[found.end() : end]
+        done += page[at : found.start()], (name == b"link" and _style_sheet(tag)) or _REPLACED[name]
+        at = end + 1
+    return b"".join([*done, page[at:]])
+
+
+def _style_sheet(tag: bytes) -> bytes:
+    """Returns the tag of a link to a style sheet and to nothing else, made anew, or no text."""
+    if len(tag) > MOST_TAG:
+        return b""
+    attributes = attributes_of(tag)
+    names = set(attributes.get("rel", "").lower().split())
+    if "stylesheet" not in names or not names <= {"stylesheet", "alternate"}:
+        return b""
+    attributes["rel"] = " ".join(sorted(names))
+    kept = "".join(f' {name}="{html.escape(attributes[name])}"' for name in _KEPT if name in attributes)
+    return f"<link{kept}>".encode(errors="replace")
+
+
+def attributes_of(tag: bytes) -> dict[str, str]:
+    """Returns the attributes of a tag, of which the first one of a name counts."""
+    found: dict[str, str] = {}
+    for each in _ATTRIBUTE.finditer(tag):
+        found.setdefault(each[1].lower().decode(errors="replace"), text_of(each[2]))
+    return found
 
 
 def text_of(value: bytes) -> str:
@@ -179,14 +208,9 @@ def text_of(value: bytes) -> str:
     return html.unescape(value.strip(b"\"'").decode(errors="replace")).strip(" \t\r\n\f\"'")
 
 
-def is_style_sheet(tag: bytes) -> bool:
-    """Returns whether a link has a style sheet and nothing else for which a browser would connect."""
-    names = attributes_of(tag).get(b"rel", "").lower().split()
-    return "stylesheet" in names and set(names) <= {"stylesheet", "alternate"}
-
-
 def _tag(name: bytes, tag: bytes, base: str, url: Url, linked: Optional[Linked]) -> bytes:
     is_sheet, is_link = name == b"link", name in (b"a", b"area")
+    filled_in = (b"href",) if is_sheet else () if is_link or name == b"base" else (b"src", b"background")
 
     def attribute(found: "re.Match[bytes]") -> bytes:
         field, value = found[1].lower(), found[2]
@@ -196,13 +220,12 @@ def _tag(name: bytes, tag: bytes, base: str, url: Url, linked: Optional[Linked])
             return b'style="' + styled(value.strip(b"\"'"), base, url).replace(b'"', b"'") + b'"'
         if field == b"target":
             return b"" if linked is not None and (is_link or name == b"base") else found[0]
-        if is_link:
+        if is_link and field == b"href" and linked is not None:
             href = text_of(value)
-            if linked is None or field != b"href" or not joined(base, href) or href[:1] == "#":
-                return found[0]
-            where = html.escape(linked(joined(base, href)) + "".join(href.partition("#")[1:]))
-            return b'href="' + where.encode(errors="replace") + b'"'
-        if field == b"rel" or name == b"base" or (field == b"href") is not is_sheet:
+            if href[:1] != "#" and (where := joined(base, href)):
+                text = html.escape(linked(where) + "".join(href.partition("#")[1:]))
+                return b'href="' + text.encode(errors="replace") + b'"'
+        if field not in filled_in:
             return found[0]
         made = url(joined(base, text_of(value)), _STYLE if is_sheet else "")
         return found[0] if made is None else field + b'="' + made.encode() + b'"'

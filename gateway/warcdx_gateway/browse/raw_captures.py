@@ -3,11 +3,9 @@ import contextlib
 import hashlib
 import re
 from collections.abc import Callable, Iterator
-from dataclasses import dataclass
+from dataclasses import dataclass, replace
 from typing import Optional
 
-from werkzeug.exceptions import RequestedRangeNotSatisfiable
-from werkzeug.http import is_resource_modified
 from werkzeug.wrappers import Request, Response
 
 from warcdx import Capture
@@ -30,8 +28,14 @@ MOST_LINE = 200  # characters of a status line that is passed on
 NOT_MODIFIED = 304
 MOST_BEFORE = 10  # captures without a payload that are passed for one that has it
 SENT = range(200, 600)  # the statuses that are passed on, but for those that act on clients
-ACTING = frozenset((205, 206, NOT_MODIFIED, 401, 407, 408, 416, 421, 425, 426, 429, 431, 499, 511))
+ACTING = frozenset((205, 206, NOT_MODIFIED, 305, 401, 407, 408, 416, 417, 421, 425, 426, 429, 431, 499, 511))
 ARCHIVED = "X-Archive-Orig-"
+# By these fields a browser says that it asks for a window. It sends the first one to hosts with TLS alone.
+VARY = ("Sec-Fetch-Dest", "Upgrade-Insecure-Requests")
+OTHER_TYPE = "application/octet-stream"
+# Types that a browser shows in a window without reading a page of HTML or XML, beside those that these pages show.
+_PLAYED = re.compile(r"(?:audio|image|video)/[a-z0-9.-]{1,60}|application/pdf")
+_RANGE = re.compile(r"bytes=([0-9]{0,99})-([0-9]{0,99})[, \t]*", re.IGNORECASE)  # the only one of a request
 _TOKEN = re.compile(r"[!#$%&'*+.^_`|~0-9A-Za-z-]{1,100}")
 
 
@@ -50,7 +54,7 @@ class Window:
 class RawCapture:
     """The answer to a request for a capture. What it has to close goes from `stack` to it.
 
-    With a `window`, a page of HTML is shown there, as far as these pages show one. XML is text then.
+    With a `window`, a page of HTML is shown there, as far as these pages show one. Other texts are plain ones then.
     """
 
     def __init__(
@@ -60,7 +64,7 @@ class RawCapture:
         self._request = request
         self._collection = collection
         self._ask = ask
-        self._capture = capture
+        self._read = [capture]  # and the originals, as they are read
         self._stack = stack
 
     def response(self, fields: dict[str, str], location_of: Callable[[str], str]) -> Response:
@@ -74,46 +78,41 @@ class RawCapture:
             return Response(f"{error}\n", error.status)
 
     def _response(self, fields: dict[str, str], location_of: Callable[[str], str]) -> Response:
-        record = self._stack.enter_context(reading.opened(self._collection, self._capture))
-        kind = "" if record.head.is_http else record.head.field("Content-Type") or ""
+        record = self._stack.enter_context(reading.opened(self._collection, self._read[0]))
         record, head = self._with_payload(record)
-        window, media_type = self._window, media_type_of(head, kind)
-        if window is not None and media_type in reading.HTML:
-            if not window.is_there:
-                return responses.redirect(window.url, 302)
-            if head is None or not (300 <= (head.status or 200) < 400 and head.field("Location")):
-                return self._shown(window, record, head, fields)
+        window, read = self._window, reading.Read(record.head, head, record.length, reading.UNREAD)
+        status = 200 if head is None else sent_status(head.status or 200)
+        target = head.field("Location") if head is not None and 300 <= status < 400 else None
+        location = location_of(target) if target is not None else ""
+        if window is not None and read.is_html and not window.is_there:
+            return responses.redirect(window.url, 302)
+        if window is not None and read.is_html and not location:
+            return self._shown(window, record, read, fields, status)
         what, coding = coded(self._request, record, self._collection.work)
-        status, headers = 200, {**responses.payload_headers(), **fields, **coding}
-        if head is not None:
-            kind = head.field("Content-Type") or ""
-            status = sent_status(head.status or 200)
-            target = head.field("Location")
-            if 300 <= status < 400 and target is not None and (where := location_of(target)):
-                headers["Location"] = where
+        headers = {**responses.payload_headers(), **fields, **coding}
+        if location:
+            headers["Location"] = location
         size = record.stored_length if what == "stored" else None
         pieces = reading.Download(self._stack, record, what, self._collection.work)
         held = pieces.held(MOST_HELD)
         response = Response(pieces if held is None else held, status, headers)
-        kind = visible(kind) or "application/octet-stream"
-        is_xml = window is not None and media_type.endswith(("/xml", "+xml"))
-        response.headers["Content-Type"] = "text/plain; charset=utf-8" if is_xml else kind
+        kind = visible(read.content_type) if window is None else window_type(read)
+        response.headers["Content-Type"] = kind or OTHER_TYPE
         if head is not None:
             response.headers.add(ARCHIVED + "Status-Line", visible(head.line)[:MOST_LINE])
         for name, value in archived_fields(head.fields if head else ()):
             response.headers.add(ARCHIVED + name, value)
-        response.set_etag(tag_of(self._capture, what))
+        response.set_etag(tag_of(what, *self._read))
         return conditional(response, self._request, size if held is None else len(held))
 
-    def _shown(self, window: Window, record: RecordStream, head: Optional[HttpHead], fields: dict[str, str]) -> Response:
+    def _shown(self, window: Window, record: RecordStream, read: reading.Read, fields: dict[str, str], status: int) -> Response:
         """Returns a page with its images and style sheets."""
         payload = reading.shown_payload(record, self._collection.work)
         if payload.fault and not payload.content:
             raise NotShown("The payload can't be unpacked.", payload.fault, 422)
-        page = window.page(reading.Read(record.head, head, record.length, payload))
+        page = window.page(replace(read, payload=payload))
         self._stack.close()
-        status = sent_status(head.status or 200) if head is not None else 200
-        headers = {**responses.payload_headers(), **fields, "Vary": "Sec-Fetch-Dest"}
+        headers = {**responses.payload_headers(), **fields, "Vary": ", ".join(VARY)}
         return Response(page, status, headers, content_type=reading.HTML_SHOWN)
 
     def _with_payload(self, record: RecordStream) -> tuple[RecordStream, Optional[HttpHead]]:
@@ -135,6 +134,7 @@ class RawCapture:
         for _ in range(MOST_BEFORE):
             if original is None:
                 break
+            self._read.append(original)
             record = self._stack.enter_context(reading.opened(self._collection, original))
             if record.http is None or record.http.status != NOT_MODIFIED:
                 return record, record.http if is_whole else head
@@ -144,10 +144,14 @@ class RawCapture:
         raise NotShown("The original of the revisit isn't here.", why, 404)
 
 
-def media_type_of(head: Optional[HttpHead], kind: str) -> str:
-    """Returns the media type of a payload in lower case, without parameters."""
-    found = kind if head is None else head.field("Content-Type") or ""
-    return found.partition(";")[0].strip().lower()
+def window_type(read: reading.Read) -> str:
+    """Returns the type with which a browser's window gets what isn't a page of HTML, or no text.
+
+    It is made here, since a browser may find another type in what an archive names than is found here.
+    """
+    if _PLAYED.fullmatch(read.kind):
+        return read.kind
+    return read.text_type if read.is_text else ""
 
 
 def sent_status(status: int) -> int:
@@ -157,45 +161,40 @@ def sent_status(status: int) -> int:
     return status
 
 
-def tag_of(capture: Capture, what: str) -> str:
-    """Returns the tag of a capture's payload, with its codings or without them."""
-    return hashlib.sha256(f"{what} {capture!r}".encode(errors="replace")).hexdigest()[:20]
-
-
-def one_range(request: Request, size: int) -> str:
-    """Returns the range of a request in `size` bytes, or no text if there isn't one range."""
-    found = request.range
-    if found is None or found.units != "bytes" or len(found.ranges) != 1:
-        return ""
-    ((first, end),) = found.ranges
-    first = max(first, -size)  # a longer end is all of it
-    return f"bytes={first}{'' if end is None and first < 0 else '-' if end is None else f'-{end - 1}'}"
+def tag_of(what: str, *captures: Capture) -> str:
+    """Returns the tag of the payload that was read of captures, with its codings or without them."""
+    return hashlib.sha256(f"{what} {captures!r}".encode(errors="replace")).hexdigest()[:20]
 
 
 def conditional(response: Response, request: Request, size: Optional[int]) -> Response:
     """Returns an answer by the conditions of its request, and if it has `size` bytes by its range.
 
-    RFC 9110, sections 13 and 14: only what has status 200 has them.
+    RFC 9110, sections 13 and 14: only what has status 200 has them, and only GET has a range.
     """
     if response.status_code != 200:
         return response
+    tag = response.get_etag()[0] or ""
+    if "If-Match" in request.headers and not request.if_match.contains(tag):
+        response.close()
+        return Response("The payload isn't the one that the request names.\n", 412)
+    if request.if_none_match.contains_weak(tag):
+        response.close()
+        return Response(b"", NOT_MODIFIED, response.headers)
     if size is None:
-        tag, _ = response.get_etag()
-        if is_resource_modified(request.environ, tag):
-            return response
-        response.close()
-        return Response(status=304, headers={"ETag": response.headers["ETag"]})
+        return response
     response.content_length = size
-    environ = {**request.environ}
-    if "HTTP_RANGE" in environ and (asked := one_range(request, size)):
-        environ["HTTP_RANGE"] = asked
-    else:
-        environ.pop("HTTP_RANGE", None)
-    try:
-        return response.make_conditional(environ, True, size)
-    except RequestedRangeNotSatisfiable as error:
+    # A tag that nginx has made weak is of compressed bytes.
+    is_whole = request.method != "GET" or request.headers.get("If-Range") not in (None, f'"{tag}"')
+    asked = None if is_whole else _RANGE.fullmatch(request.headers.get("Range", "").strip())
+    first, last = asked.groups() if asked else ("", "")
+    if not first + last or (first and last and int(first) > int(last)):
+        response.accept_ranges = "bytes"
+        return response
+    start, end = (int(first), min(int(last or size), size - 1)) if first else (max(size - int(last), 0), size - 1)
+    if start > end:
         response.close()
-        return Response(f"{error.description}\n", 416, {"Content-Range": f"bytes */{size}"})
+        return Response("The range has no byte of the payload.\n", 416, {"Content-Range": f"bytes */{size}"})
+    return response.make_conditional({"REQUEST_METHOD": "GET", "HTTP_RANGE": f"bytes={start}-{end}"}, True, size)
 
 
 def coded(request: Request, record: RecordStream, work: Work) -> tuple[str, dict[str, str]]:

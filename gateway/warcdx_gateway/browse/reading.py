@@ -16,6 +16,7 @@ from warcdx.record_digests import BlockCheck, Verdicts
 from ..collection import Collection
 from ..rules import Action
 from ..work import Work
+from .fitting import expect_fitting
 from .searching import NotShown
 
 MOST_SHOWN = 4 << 20  # bytes of a payload that are shown
@@ -51,6 +52,9 @@ class Payload:
     stored_otherwise: tuple[str, ...] = ()
 
 
+UNREAD = Payload(b"", is_whole=False)
+
+
 @dataclass(frozen=True)
 class Read:
     """A record: its heads, the length of its block in bytes, and its payload."""
@@ -82,12 +86,13 @@ class Read:
         """The type with which the payload is shown in its frame, or None if it isn't shown."""
         if self.kind in _IMAGES:
             return self.kind if self.payload.is_whole else None
-        charset = f"; charset={self.charset}" if self.charset else ""
-        if self.kind in HTML:
+        if self.is_html:
             return HTML_SHOWN
-        if self.is_text:
-            return f"text/plain{charset or '; charset=utf-8'}"
-        return None
+        return self.text_type if self.is_text else None
+
+    @property
+    def text_type(self) -> str:
+        return f"text/plain; charset={self.charset or 'utf-8'}"
 
     @property
     def is_text(self) -> bool:
@@ -100,7 +105,7 @@ class Read:
 
 @contextlib.contextmanager
 def opened(collection: Collection, capture: Capture) -> Iterator[RecordStream]:
-    """Opens the record of a capture, by its offset and length. Raises NotShown."""
+    """Opens the record of a capture, by its offset and length. Raises NotShown, also if it is another's."""
     settings, work = collection.settings, collection.work
     path = find_archive(settings.archives, capture.filename, settings.links)
     if collection.rules.action(capture.urlkey, capture.timestamp, capture.digest) > Action.SHOW:
@@ -114,6 +119,7 @@ def opened(collection: Collection, capture: Capture) -> Iterator[RecordStream]:
     try:
         archive, seconds = open_archive(path, program=collection.program), work.seconds(SILENCE)
         with archive.stream(capture.offset, length=capture.length, seconds=seconds) as record:
+            expect_fitting(collection.program, record.head, capture)
             yield record
     except faults.NoRecord:
         raise NotShown("There is no record here.", "No record of the archive begins at this offset and has this length.", 404) from None

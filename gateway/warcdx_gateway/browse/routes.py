@@ -161,7 +161,7 @@ def download(gateway: Gateway, collection: Collection, request: Request) -> Resp
         opened = Download(stack, record, what, gateway.work)
     headers = responses.attachment_headers(_file_name(opened, place, what))
     response = Response(opened, 200, headers, content_type="application/octet-stream")
-    response.set_etag(tag_of(capture, what))
+    response.set_etag(tag_of(what, capture))
     return conditional(response, request, opened.size)
 
 

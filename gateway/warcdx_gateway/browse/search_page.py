@@ -21,7 +21,7 @@ def search_page(gateway: Gateway, collection: Collection, search: Search, year: 
     """
     counts = count(gateway.source(collection), search)
     if not counts.total:
-        return collection_page(collection, title_of(search), nothing(search), search=search)
+        return collection_page(collection, search.shown, nothing(search), search=search)
     chosen = year if _YEAR.fullmatch(year) else ""
     if search.is_single and not chosen:
         chosen = max(counts.years)
@@ -39,7 +39,7 @@ def search_page(gateway: Gateway, collection: Collection, search: Search, year: 
         _years(counts, search, chosen),
         element("div", _year(counts, search, chosen) if chosen else None, listed, id="year", class_="year-and-list"),
     ]
-    return collection_page(collection, title_of(search), *content, search=search)
+    return collection_page(collection, search.shown, *content, search=search)
 
 
 def _years(counts: Counts, search: Search, chosen: str) -> Markup:
@@ -72,11 +72,7 @@ def captures_page(gateway: Gateway, collection: Collection, search: Search, afte
         words += f" {where} {dates.period_in_words(search.first)}"
     back = element("p", element("a", "All years of this search", href=search.ever().link("search")), class_="back")
     listed = lists.captures_section(found, search, words)
-    return collection_page(collection, title_of(search), heading(search), back, listed, search=search)
-
-
-def title_of(search: Search) -> str:
-    return search.shown
+    return collection_page(collection, search.shown, heading(search), back, listed, search=search)
 
 
 def heading(search: Search) -> Markup:

@@ -1,0 +1,227 @@
+"""The master and its workers, as gunicorn runs them."""
+import contextlib
+import os
+import select
+import signal
+import socket
+import sys
+import time
+from collections.abc import Iterable
+from types import FrameType
+from typing import Any, Optional
+
+import gunicorn.arbiter
+import gunicorn.glogging
+import gunicorn.systemd
+import gunicorn.workers.sync
+from gunicorn.http.errors import InvalidHeader, UnsupportedTransferCoding
+
+from .refusal import NAME, without_controls
+from .waiting import COSTLY_LEVEL, address_of, queue_of
+from .work import MOST_FREE, Connection, Lease, NeedsSlot
+
+ENDS = (signal.SIGTERM, signal.SIGINT, signal.SIGQUIT, signal.SIGABRT)
+SILENCE = 2  # seconds for a client to send its request when a worker ends
+PAUSE = 0.05  # seconds until a worker looks again for a slot for those that wait
+
+
+class Sign:
+    """The file by whose time a worker shows the master that it goes on.
+
+    It is in memory. On a full disk gunicorn's own couldn't be made, and the master would end.
+    """
+
+    def __init__(self, config: Any) -> None:
+        self._file = os.memfd_create("worker")
+        self._mode = 0
+
+    def notify(self) -> None:
+        self._mode ^= 1
+        os.fchmod(self._file, self._mode)
+
+    def last_update(self) -> float:
+        return os.fstat(self._file).st_ctime
+
+    def fileno(self) -> int:
+        return self._file
+
+    def close(self) -> None:
+        os.close(self._file)
+
+
+class Log(gunicorn.glogging.Logger):
+    """What gunicorn reports: one line each, and never a traceback."""
+
+    error_fmt = f"{NAME}: %(message)s"
+
+    def exception(self, msg: str, *args: Any, **kwargs: Any) -> None:
+        self.error_log.error(f"{msg}: %s", *args, sys.exc_info()[1])
+
+    def atoms(self, *args: Any, **kwargs: Any) -> dict[str, Any]:
+        """Returns what a line of the access log may have, without what acts on a terminal."""
+        found = super().atoms(*args, **kwargs).items()
+        return {name: without_controls(value) if isinstance(value, str) else value for name, value in found}
+
+    def info(self, msg: str, *args: Any, **kwargs: Any) -> None:
+        if kwargs.get("exc_info"):
+            self.exception(msg, *args)
+
+
+class Master(gunicorn.arbiter.Arbiter):
+    """The process that keeps the workers."""
+
+    def manage_workers(self) -> None:
+        if self.app.look():
+            self.reload()  # which comes back to this
+        else:
+            super().manage_workers()
+
+    def handle_hup(self) -> None:
+        """Reads the settings again. They come into use when their indexes were checked."""
+        self.app.read_again()
+
+    def handle_usr2(self) -> None:
+        """Does nothing: the address has one master."""
+
+    def spawn_worker(self) -> Any:
+        """Starts a worker, which gets a signal that comes meanwhile when it can handle it."""
+        signal.pthread_sigmask(signal.SIG_BLOCK, ENDS)
+        try:
+            return super().spawn_worker()
+        finally:
+            if os.getpid() == self.pid:
+                signal.pthread_sigmask(signal.SIG_UNBLOCK, ENDS)
+
+    def stop(self, graceful: bool = True) -> None:
+        gunicorn.systemd.sd_notify("STOPPING=1", self.log)
+        self.app.end_checks()
+        super().stop(graceful)
+
+
+class Worker(gunicorn.workers.sync.SyncWorker):
+    """A process that answers one request at a time."""
+
+    is_reading = False  # a request
+
+    def run(self) -> None:
+        """Answers a new request, and one that has waited, as long as there are any."""
+        for listener in self.sockets:
+            listener.setblocking(False)
+        waiting = poll_of(self.app.waiting.descriptors)
+        new = poll_of([*self.sockets, self.PIPE[0]])
+        anything = poll_of([*self.app.waiting.descriptors, *self.sockets, self.PIPE[0]])
+        while self.alive and self.is_parent_alive():
+            self.notify()
+            has_begun = any([self.accept(listener) for listener in self.sockets])
+            waits = bool(waiting.poll(0))
+            has_gone_on = waits and self.alive and self._go_on()
+            if has_begun or has_gone_on:
+                continue
+            if waits:  # there is no slot for them
+                new.poll(PAUSE * 1000)
+            else:
+                anything.poll(self.timeout * 1000)
+            with contextlib.suppress(BlockingIOError):
+                os.read(self.PIPE[0], 64)  # a byte for each signal
+        for client in self.app.waiting.rest():
+            self._answer(client)
+
+    def _go_on(self) -> bool:
+        """Answers a request that has waited, if it has a slot now or is too late."""
+        with self.app.shares.next() as client:
+            if client is None:
+                return False
+            self._answer(client)
+        return True
+
+    def _answer(self, client: Connection) -> None:
+        try:
+            address = client.getpeername()
+        except OSError:  # it has left
+            client.close()
+        else:
+            self.handle(self.sockets[0], client, address)
+
+    def init_signals(self) -> None:
+        super().init_signals()
+        signal.siginterrupt(signal.SIGTERM, True)  # else it is handled after a read or write only
+        signal.pthread_sigmask(signal.SIG_UNBLOCK, ENDS)
+
+    def handle_exit(self, sig: int, frame: Optional[FrameType]) -> None:
+        """Ends after the present answer. No connection waits for this worker then.
+
+        A socket that doesn't listen takes the place of each that does, as it is used until then.
+        """
+        super().handle_exit(sig, frame)
+        with socket.socket() as silent:
+            for listener in self.sockets:
+                os.dup2(silent.fileno(), listener.fileno())
+
+        signal.signal(signal.SIGALRM, self.handle_silence)
+        signal.alarm(SILENCE)
+
+    def handle_silence(self, sig: int, frame: Optional[FrameType]) -> None:
+        """Ends at once if the client hasn't sent its request yet, or the master was killed."""
+        if self.is_reading or os.getppid() != self.ppid:
+            sys.exit(0)
+
+    def handle(self, listener: Any, client: socket.socket, addr: Any) -> None:
+        self.is_reading = True
+        try:
+            super().handle(listener, client, addr)
+        finally:
+            self.is_reading = False
+
+    def handle_request(self, listener: Any, req: Any, client: Connection, addr: Any) -> None:
+        """Answers a request. gunicorn would take a field SCRIPT_NAME of the client for its own."""
+        self.is_reading = False
+        req.headers = [each for each in req.headers if each[0] != "SCRIPT_NAME"]
+        forwarded = [value for name, value in req.headers if name == "X-FORWARDED-FOR"]
+        address = address_of(str(addr[0]) if addr else "", "".join(forwarded[-1:]))
+        # Two requests with bodies may have one URI, and differ in what they cost.
+        costs, name = self.app.costs, "" if req.method == "POST" else f"{req.method} {req.uri}"
+        is_new = client.lease is Lease.FREE and not client.is_for_metrics
+        is_costly = costs.level(name) > 0 or costs.level(address or "") > COSTLY_LEVEL
+        if not (is_new and is_costly):
+            try:
+                super().handle_request(listener, req, client, addr)
+                return
+            except NeedsSlot:
+                for each in filter(None, (name, address)):
+                    costs.note(each)
+        if not self.alive:
+            self._answer(client.passed_on(Lease.SLOT))
+        elif not self.app.waiting.put(queue_of(address), client):
+            self._answer(client.passed_on(Lease.NONE))
+
+    def handle_error(self, req: Any, client: Any, addr: Any, exc: BaseException) -> None:
+        """Refuses a request that can't be read, also one with a transfer coding, which gunicorn takes for a fault of its own."""
+        if isinstance(exc, UnsupportedTransferCoding):
+            exc = InvalidHeader("Transfer-Encoding", req)
+        super().handle_error(req, client, addr, exc)
+
+    def accept(self, listener: Any) -> bool:
+        """Answers a new request, and returns whether there was one."""
+        try:
+            client, address = listener.accept()
+        except (BlockingIOError, ConnectionAbortedError):
+            return False
+        except OSError:
+            if self.alive:
+                raise
+            return False
+        family, arrived = listener.FAMILY, time.monotonic()
+        connection = Connection(client.detach(), Lease.FREE, arrived, family=family)
+        connection.is_for_metrics = listener is not self.sockets[0]
+        connection.setblocking(True)
+        connection.setsockopt(socket.SOL_SOCKET, socket.SO_SNDBUF, MOST_FREE)
+        self.handle(listener, connection, address)
+        return True
+
+
+def poll_of(readable: Iterable[Any]) -> "select.poll":
+    """Returns what waits until one of these can be read."""
+    poll = select.poll()
+    for each in readable:
+        poll.register(each, select.POLLIN)
+    return poll
