@@ -95,6 +95,20 @@ def check_package(report: Report, work: pathlib.Path) -> None:
     check(report, "the package", (0, wanted_line, ""), changed(line, os.environ))
 
 
+def check_replacing(report: Report, work: pathlib.Path) -> None:
+    """Runs the command of docs/OTHER_TOOLS.md that makes the index anew, without the package. The old index has to stay."""
+    lines = (ROOT / "docs/OTHER_TOOLS.md").read_text().splitlines()
+    command = next(line for line in lines if "mv pywb.new pywb.cdxj" in line).partition("$ ")[2]
+    environment = with_module(NO_PACKAGE, work / "replacing")
+    (work / "examples").symlink_to(HERE)
+    (work / "all.cdxj").write_text(LINE % '"http://a"')
+    (work / "pywb.cdxj").write_text("old\n")
+    subprocess.run(
+        ("bash", "-c", command), cwd=work, env={**environment, "PATH": f"{HERE}:{environment['PATH']}"}, stderr=subprocess.DEVNULL
+    )
+    check(report, "an index that can't be made anew", "old\n", (work / "pywb.cdxj").read_text())
+
+
 def main() -> int:
     parser = parser_of(__doc__)
     add_program(parser)
@@ -105,6 +119,7 @@ def main() -> int:
         check_stand_in(report, work)
         check_sorted(report, work, program)
         check_package(report, work)
+        check_replacing(report, work)
     return report.end()
 
 

@@ -14,7 +14,8 @@ run_built() {
     shopt -s nullglob
 
     # Calls at the same time wait for one build, of whichever program.
-    exec 9< "$root/crates.txt"
+    command -v flock > /dev/null || stop "flock is missing (Debian's package util-linux)"
+    exec 9< "$root/crates.txt" || stop "the sources can't be read"
     if ! flock --shared --nonblock 9; then
         say "waiting for the build that another call began"
         flock --shared 9
@@ -55,8 +56,7 @@ build() {
     command -v rt > /dev/null || stop "rt is not on the PATH; the program has to be built, by the Rattle kit's rt"
     say "proving and building the program, in 16 to 33 minutes from nothing; README.md has a first look without proofs"
     SECONDS=0
-    mkdir -p "$out"
-    touch "$out/started"
+    { mkdir -p "$out" && touch "$out/started"; } || stop "the build can't write into $out"
     "$root/tools/build.py" "$crate" &
     builder=$!
     trap 'end INT' INT

@@ -1,5 +1,5 @@
 #!/usr/bin/env python3
-"""Checks the English of the pages, of the help and of the docstrings by the rules of docs/developers/STYLE.md.
+"""Checks the English of the pages, of the help and of the docstrings by the rules of CONTRIBUTING.md.
 
 usage: check_prose.py [--list] [PAGE..]
 
@@ -7,7 +7,7 @@ usage: check_prose.py [--list] [PAGE..]
   which web archives have another, and no word that stands for a thing that can be named.
 - In a page, a line has at most 100 columns, if it isn't code, a row of a table or a link.
 - The pages, the texts of help, the docstrings of the crates, and the scripts contain none of the
-  phrases that docs/developers/STYLE.md replaces.
+  phrases that CONTRIBUTING.md replaces.
 
 How long a sentence is, nobody counts but its reader. A comment `<!-- prose: REASON -->` on a line of
 its own excuses the block of lines that follows it.
@@ -38,8 +38,8 @@ PHRASES = re.compile(
 )
 # Pages that use the words of the code, and the manual pages that repeat the help of the programs. The gateway's are to come.
 OTHER_PAGES = (
-    "CONTRIBUTING.md", "bench/README.md", "bench/RESULTS.md", "docs/developers/ARCHITECTURE.md", "docs/proof/CONTRACTS.md", "docs/developers/DECISIONS.md", "docs/developers/GLOSSARY.md", "docs/developers/LIBRARY.md",
-    "docs/proof/PROVED.md", "docs/proof/STATEMENT.md", "docs/developers/STYLE.md", "docs/proof/TRUST.md", "docs/warcdx.1", "docs/warcdx-gz.1", "gateway/BROWSE.md", "gateway/README.md",
+    "CONTRIBUTING.md", "bench/README.md", "bench/RESULTS.md", "docs/developers/ARCHITECTURE.md", "docs/proof/CONTRACTS.md", "docs/developers/DECISIONS.md", "docs/developers/LIBRARY.md",
+    "docs/proof/PROVED.md", "docs/proof/STATEMENT.md", "docs/proof/TRUST.md", "docs/warcdx.1", "docs/warcdx-gz.1", "gateway/BROWSE.md", "gateway/README.md",
 )  # fmt: skip
 HOUSE_WORDS = re.compile(r"\b(?:stamps?|heads?|stands?|(?:that|those) of|as for|all else)\b", re.IGNORECASE)
 

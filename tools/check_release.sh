@@ -159,6 +159,29 @@ check_programs() {
         "$(installed warcdx query 'url=127.0.0.1:8000/odd/gone&fl=original,statuscode' "$found")"
 }
 
+# The commands in Python, where the PATH has no other program, where Debian's Python is missing, and where there is none.
+check_starts() {
+    local other=$work/other script name path
+    mkdir -p "$other/bin" "$other/python"
+    ln -s "$prefix/share" "$other/share"
+    ln -s /usr/bin/python3 "$other/python/python3"
+    for script in "$root"/{python,gateway}/bin/*; do
+        name=${script##*/}
+        sed "s:/usr/bin/python3:$other/none:g" "$prefix/bin/$name" > "$other/bin/$name"
+        chmod 755 "$other/bin/$name"
+    done
+    path=$prefix/bin
+    expect "commands without other programs" "" "$(silent_commands with_path "$prefix/bin")"
+    path=$other/bin:$other/python
+    expect "commands by the Python of the PATH" "" "$(silent_commands with_path "$other/bin")"
+    path=$other/bin
+    expect "a command without Python" "3 $name: python3 is missing (Debian's package python3)" "$(found=$(with_path "$name") || echo "$? $found")"
+}
+
+with_path() { # COMMAND ARGUMENT..: runs a command with no other folder on the PATH than $path has
+    env --ignore-environment PATH="$path" PYTHONDONTWRITEBYTECODE=1 "$@" 2>&1
+}
+
 # How the files of the package differ from those of the tar file, as docs/INSTALL.md says.
 package_differences() {
     LC_ALL=C diff --recursive --brief --exclude=common-licenses "$prefix" "$debian/usr" | sed "s:$work/::g; s:$name:tar:g" | LC_ALL=C sort
@@ -296,6 +319,13 @@ copy_for_owner_alone() { # FOLDER: copies the checkout, whose files only their o
     chmod --recursive go-rwx "$1"
 }
 
+make_failing() { # PROGRAM GZ_PROGRAM: makes a release, whose tar file can't be written
+    mkdir "$work/failing"
+    printf '#!/bin/sh\ncase $* in *--sort=name*) exit 1 ;; esac\nexec %s "$@"\n' "$(type -P tar)" > "$work/failing/tar"
+    chmod 755 "$work/failing/tar"
+    PATH=$work/failing:$PATH "$root/tools/release" --output "$work/failed" "$@" > "$work/output" 2>&1 || true
+}
+
 check_same_again() { # PROGRAM [GZ_PROGRAM]
     local program gz_program
     read_programs "$@"
@@ -303,6 +333,7 @@ check_same_again() { # PROGRAM [GZ_PROGRAM]
     (umask 077 && TZ=Pacific/Kiritimati LC_ALL=C "$work/copy/tools/release" --output "$work/again" "$program" "$gz_program" > "$work/output")
     expect "the same release again" "" "$(diff "$folder/SHA256SUMS" "$work/again/SHA256SUMS" 2>&1)"
     expect "modes of the files of a release" "" "$(find "$work/again" -type f ! -perm 644)"
+    expect "what is left of a release that fails" "" "$(make_failing "$program" "$gz_program"; find "$work/failed" -mindepth 1)"
 }
 
 expect "checksums" "$(printf '%s: OK\n' "${tar_file##*/}" "${package##*/}" "${wheel##*/}")" "$(cd "$folder" && sha256sum --check SHA256SUMS 2>&1)"
@@ -311,6 +342,7 @@ dpkg-deb --extract "$package" "$debian"
 install -D --mode=644 "$root/LICENSE" "$debian/usr/share/common-licenses/Apache-2.0" # as Debian has it
 check_tar_file
 check_programs
+check_starts
 check_debian_package
 check_wheel
 check_wheel_gateway

@@ -113,6 +113,14 @@ class Checkout:
         output, said = process.communicate()
         return Ended(process.returncode, output, said or "", time.monotonic() - began)
 
+    def path_of(self, *names: str) -> str:
+        """Returns a folder that has these commands alone."""
+        folder = self.folder.parent / "commands"
+        folder.mkdir()
+        for name in names:
+            (folder / name).symlink_to(shutil.which(name) or name)
+        return str(folder)
+
     def begun(self) -> list[int]:
         """Returns the processes that took rt's place."""
         return [int(line) for line in self.runs.read_text().splitlines()]
@@ -169,6 +177,12 @@ def check_ends(report: Report, checkout: Checkout) -> None:
     expect("no rt", checkout.build(script, path="/usr/bin:/bin"), 3, "rt is not on the PATH")
     with open("/dev/full", "wb") as full:
         expect("a full standard error", checkout.build(script, error=full.fileno()), 0, "")
+    expect("no flock, by ./warcdx", checkout.build("./warcdx", "list", path=checkout.path_of("bash", "dirname", "find", "readlink")), 3, "flock is missing")
+    out = checkout.folder / "crates/warcdx/out"
+    shutil.rmtree(out, ignore_errors=True)
+    out.write_text("")
+    expect("a folder that can't be made, by ./warcdx", checkout.build("./warcdx", "list", is_anew=False), 3, "the build can't write into")
+    out.unlink()
 
 
 def check_signals(report: Report, checkout: Checkout) -> None:

@@ -349,7 +349,7 @@ advises "why: a folder"             "It is a folder: warcdx-update indexes the a
 advises "why: a cut archive"        "The archive ends within a record's header."                        1 index torn.warc
 advises "why: a file name twice"    "Another archive has this file name: rename one of them."           1 index r.warc folder/r.warc
 advises "why: no record"            "No record begins at this offset, or it has another length: list prints the offsets." 1 get 1 r.warc
-advises "why: a folder as an index" "It is a folder."                                                   3 check folder
+advises "why: a folder as an index" "It is a folder: of an index of warcdx-update, name its current/*.cdxj." 3 check folder
 advises "why: an index of gzip"     "It is compressed by gzip: decompress it first."                    1 check sorted.cdxj.gz
 advises "why: an index of zstd"     "It is compressed by zstd: decompress it first."                    1 check r.warc.zst
 advises "why: HTML as an index"     "It seems to be an HTML or XML file, and not an index."             1 check page.html

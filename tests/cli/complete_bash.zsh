@@ -24,7 +24,7 @@ print_offered() {
 complete -F print_offered "$command"
 END
 zpty shell "bash --norc -i"
-zpty -w shell "PS1=; source ${(q)1}; source $setup; echo REA''DY"
+zpty -w shell "PS1=; source ${(q)1}; source ${(q)setup}; echo REA''DY"
 zpty -r -m shell seen '*READY*'
 zpty -w -n shell "$2"$'\t'
 zpty -r -m shell seen '*ENDED*'

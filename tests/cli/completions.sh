@@ -97,6 +97,8 @@ warcdx serve |a.cdxj
 warcdx query url=x |a.cdxj
 warcdx pages 5 url=x |a.cdxj
 warcdx pages 5 url=x a.cdxj |a.cdxj
+warcdx query url=a|
+warcdx pages 5 url=a|
 warcdx-gz merge |a.cdxj
 warcdx-gz query url=x |a.cdxj
 END

@@ -101,8 +101,8 @@ make_base > "$work/log" 2>&1
 check_command "built as gateway/README.md says" make_system
 expect "its commands" "warcdx-update $version" "$(inside /usr/local/bin/start warcdx-update --version)"
 expect "the user of a command" warcdx-update "$(inside /usr/local/bin/start id --user --name)"
-expect "the index" "" "$(inside /usr/local/bin/start warcdx-update --quiet --recursive /archives /indexes/all.cdxj 2>&1 | grep -v damaged.warc)"
-expect "its owner" warcdx-update "$(user_of /indexes/all.cdxj)"
+expect "the index" "" "$(inside /usr/local/bin/start warcdx-update --quiet --recursive /archives /indexes/all.cdxj.d 2>&1 | grep -v damaged.warc)"
+expect "its owner" warcdx-update "$(user_of /indexes/all.cdxj.d)"
 wanted_answers="http://127.0.0.1:8000/odd/gone 410
 200
 421

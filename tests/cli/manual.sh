@@ -6,7 +6,7 @@
 # `mandoc -T lint -W warning` has to be silent. docs/warcdx.1 has to have the program's version; a synopsis and a section for each command that the
 # help lists; each exit status; each line of standard error of docs/COMMANDS.md; and each cause of docs/RECORDS.md and docs/QUERY.md.
 #
-# docs/warcdx-gz.1 has to have the version, the commands and the options of warcdx-gz, and each cause of docs/COMPRESSED.md. Each command in Python has to
+# docs/warcdx-gz.1 has to have the version, the commands and the options of warcdx-gz, and each cause of a compressed archive in docs/RECORDS.md. Each command in Python has to
 # have a page with its options and the same version. Each page has completions for bash, zsh and fish, and its SEE ALSO names all other pages.
 #
 # Prints a line for each check, and the counts. The exit status is 0, or 1 if a check fails. Needs Debian's packages mandoc and bsdextrautils.
@@ -48,7 +48,8 @@ diagnostics() { # of docs/COMMANDS.md
 
 causes() { # in the tables of docs/RECORDS.md and docs/QUERY.md
     {
-        grep --no-filename --only-matching "^|[ 0-9]*|\{0,1\} *\`[A-Z][^|]*\` |" "$root"/docs/{RECORDS,QUERY}.md
+        grep --only-matching "^| [0-9]* | \`[A-Z][^|]*\` |" "$root/docs/RECORDS.md"
+        grep --only-matching "^| \`[A-Z][^|]*\` |" "$root/docs/QUERY.md"
         grep --only-matching "\`refused [A-Z][A-Za-z]*\`" "$root/docs/QUERY.md" | sed 's/refused //'
     } | grep --only-matching "\`[A-Z][a-z][A-Za-z]*\`" | tr --delete "\`"
 }
@@ -79,8 +80,8 @@ options_of_packed() {
     pages_of_packed | grep --only-matching -- '--[a-z][a-z-]*' | sort --unique
 }
 
-packed_causes() { # in the table of docs/COMPRESSED.md
-    grep --only-matching "^| \`[A-Z][A-Za-z]*\` |" "$root/docs/COMPRESSED.md" | tr --delete "\`| "
+packed_causes() { # in the table of docs/RECORDS.md without numbers
+    grep --only-matching "^| \`[A-Z][a-z][A-Za-z]*\` |" "$root/docs/RECORDS.md" | tr --delete "\`| "
 }
 
 mandoc -T utf8 -O width=200 "$root/docs/warcdx-gz.1" | col -bx > "$work/page"

@@ -47,7 +47,7 @@ CHANGES = (
     Change("a law has another name", "crates/scan_core/src/laws.rt", "fn scan_writes_one_text", "fn scans_write_one_text", PROVED, "scan_writes_one_text"),
     Change("a law isn't named", "crates/scan_core/src/laws.rt", "pub fn scan_writes_one_text", "pub fn more()\n    ensures { ⊤ }\n{}\npub fn scan_writes_one_text", PROVED, "crates/scan_core/src/laws.rt: more"),
     Change("there is more unsafe code", "crates/cdxj_keys/src/key.rt", "    let mut key = unsafe {", "    unsafe {}\n    let mut key = unsafe {", TRUST, "the places of unsafe"),
-    Change("a function isn't imported", "docs/proof/TRUST.md", "| `read` |", "| `read`, `fsync` |", TRUST, "warcdx has fsync"),
+    Change("a function isn't imported", "docs/proof/TRUST.md", "| `read`, `pread` |", "| `read`, `pread`, `fsync` |", TRUST, "warcdx has fsync"),
     Change("an import isn't named", "docs/proof/TRUST.md", "`memcpy`, ", "", TRUST, "warcdx: imports that the page doesn't name"),
 )
 

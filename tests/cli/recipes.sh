@@ -9,7 +9,8 @@
 # folder of its own, which the page's first lines have made. Ports, timestamps, offsets and identifiers of
 # the crawl differ from run to run, and aren't compared.
 #
-# Then the list at the top of the page is compared with its headings.
+# Then the recipe that packs an archive runs on a damaged one, of which it may pack nothing, and the list at the top of the page is compared with its
+# headings.
 #
 # Prints a line for each recipe, with the differences if there are any, and the counts. The exit
 # status is 0, or 1 if a recipe differs. With --print it prints only what RECIPE prints. Needs
@@ -63,8 +64,7 @@ script_of() {
 }
 
 in_folder() { # FOLDER SCRIPT: runs a script as a user does who has the commands on the PATH
-    (cd "$1" && env HOME="$1" TMPDIR="$work" LC_ALL=C.UTF-8 PATH="$work/bin:$root/examples:$root/python/bin:$PATH" \
-        PYTHONPATH="$root/python${PYTHONPATH:+:$PYTHONPATH}" "$shell" "$2" 2>&1 < /dev/null)
+    (cd "$1" && env HOME="$1" TMPDIR="$work" LC_ALL=C.UTF-8 PATH="$work/bin:$root/python/bin:$PATH" "$shell" "$2" 2>&1 < /dev/null)
 }
 
 # Makes a folder by the page's first lines. The folders of the recipes are copies of it.
@@ -126,6 +126,16 @@ while IFS= read -r recipe; do
     fi
 done < <(recipes)
 
+pack_damaged() { # prints what the recipe makes of a damaged archive
+    local folder
+    folder=$(mktemp -d -p "$work")
+    cp "$root/samples/damaged.warc" "$folder/wget.warc"
+    lines_of 'How do I pack an archive record by record?' | script_of | sed '/^done/q' > "$work/script"
+    in_folder "$folder" "$work/script" > "$work/found" || true
+    find "$folder" -name '*.gz'
+}
+
+expect "a damaged archive isn't packed" "" "$(pack_damaged)"
 wanted_contents > "$work/wanted"
 contents > "$work/found"
 expect_file "the contents" "$work/wanted" "$work/found"

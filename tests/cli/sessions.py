@@ -26,7 +26,7 @@ sys.path.insert(0, str(pathlib.Path(__file__).resolve().parents[1]))
 from program import PACKED, ROOT, Report, add_program, find_packed_program, find_program, parser_of
 
 PAGES = (
-    "docs/COMMANDS.md", "docs/COMPRESSED.md", "docs/FAQ.md", "docs/OTHER_TOOLS.md", "docs/QUERY.md", "docs/VERIFY.md",
+    "docs/COMMANDS.md", "docs/FAQ.md", "docs/OTHER_TOOLS.md", "docs/QUERY.md", "docs/RECORDS.md", "docs/VERIFY.md",
 )  # fmt: skip
 BLOCK = re.compile(r"(?:^    .*\n|^\n(?=(?:\n)*    ))+", re.MULTILINE)
 COMMAND = re.compile(r"^\$ (.*)\n((?:(?!\$ ).*\n)*)", re.MULTILINE)
@@ -45,7 +45,7 @@ def sessions_of(page: str) -> Iterator[list[tuple[str, str]]]:
 
 def run(commands: list[str], folder: str) -> list[str]:
     """Runs commands one after another by one bash, and returns what each of them prints."""
-    path = os.pathsep.join((folder, str(ROOT / "python/bin"), str(ROOT / "examples"), os.environ["PATH"]))
+    path = os.pathsep.join((folder, str(ROOT / "python/bin"), os.environ["PATH"]))
     modules = os.pathsep.join(filter(None, (os.environ.get("PYTHONPATH"), f"{folder}/modules")))
     lines = (f"{command}\nkept=$?; echo '{MARK}'; (exit $kept)" for command in commands)
     done = subprocess.run(

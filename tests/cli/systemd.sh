@@ -156,7 +156,7 @@ expect "no process is left" "" "$(users)"
 
 check_command "systemd updates an index" inside systemctl start warcdx-update.service
 expect "the index, and its owner" "$captures warcdx-update" \
-    "$(inside sh -c 'wc -l < /var/lib/warcdx/all.cdxj; stat --format=%U /var/lib/warcdx/all.cdxj' | paste --serial --delimiters=' ')"
+    "$(inside sh -c 'cat /var/lib/warcdx/all.cdxj.d/current/*.cdxj | wc -l; stat --format=%U /var/lib/warcdx/all.cdxj.d' | paste --serial --delimiters=' ')"
 check_command "systemd starts the timer" inside systemctl start warcdx-update.timer
 expect "it waits for the night" "waiting *-*-* 03:00:00" \
     "$(inside systemctl show --property=SubState --value warcdx-update.timer) $(inside systemctl cat warcdx-update.timer | sed -n 's/^OnCalendar=//p')"

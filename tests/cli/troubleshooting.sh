@@ -229,6 +229,13 @@ shows "its first bytes" "00000000: efbb bf" first_bytes bom.cdxj
 sed -i '1s/^\xef\xbb\xbf//' bom.cdxj
 prints "without it" "" cmp bom.cdxj wget.cdxj
 
+row "\`Read\`, with \`It is a folder\`, for the INDEX of \`warcdx-update\`"
+mkdir kept
+cp response.warc kept
+"$root/python/bin/warcdx-update" --quiet --program "$program" kept kept.cdxj.d
+prints "the folder" $'warcdx: kept.cdxj.d: Read\n  It is a folder: of an index of warcdx-update, name its current/*.cdxj.' "$program" check kept.cdxj.d
+sees "its runs" "kept.cdxj.d/current/000001.cdxj 1" "" 0 check kept.cdxj.d/current/*.cdxj
+
 row "\`cannot open\`, for one of more than 1,000 indexes that are there"
 mapfile -t indexes < <(echo response.cdxj | repeated 1024)
 with_limit() { # LIMIT: merges 1,024 indexes
@@ -355,7 +362,7 @@ prints "no file" $'warcdx: nosuch: cannot open\n  No such file or directory (os 
 
 row "\`Read\`, or \`Input\` for standard input"
 mkdir folders
-prints "a folder" $'warcdx: folders: Read\n  It is a folder.' "$program" check folders
+prints "a folder" $'warcdx: folders: Read\n  It is a folder: of an index of warcdx-update, name its current/*.cdxj.' "$program" check folders
 # shellcheck disable=SC2016 # the other shell expands it
 shows "Input of serve" "Input" bash -c '"$1" serve response.cdxj < folders' bash "$program"
 
@@ -384,7 +391,8 @@ sees "apart" "response.cdxj 1" "$missing" 3 check response.cdxj missing
 row "\`warcdx: Write\` in front of \`head\`"
 repeated 20000 < response.warc > many.warc
 in_front_of_head() {
-    "$program" list many.warc | head --lines=1
+    { "$program" list many.warc | head --lines=1; } 2> said
+    cat said # and not as the two happen to write
 }
 prints "the message" $'0 264 response\nwarcdx: Write\n  Broken pipe (os error 32)' in_front_of_head
 

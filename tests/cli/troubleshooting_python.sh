@@ -13,6 +13,14 @@ shows "no program" "no such program" run_python verify --program nosuch response
 shows "another program" "not the program warcdx" run_python verify --program /bin/true response.warc
 shows "an old program" "is needed" run_python verify --program ./old response.warc
 
+row "\`python3 is missing\`"
+start_without_python() {
+    # shellcheck source=tools/debian/package.sh
+    (source "$root/tools/debian/package.sh" && print_movable_start python/bin/warcdx-verify) | sed 's:/usr/bin/python3:/nonexistent:' > start
+    PATH=/nonexistent /bin/sh ./start --help
+}
+shows "a start without Python" "warcdx-verify: python3 is missing" start_without_python
+
 row "\`it needs Python\`"
 old_python() {
     PATH=/nonexistent /usr/bin/python3 -c 'import runpy, sys
@@ -191,6 +199,7 @@ rows_of_refusals() { # NAMES..
 rows_of_refusals Host BadBody "BadPage BadSort BadQuery" "TooMany TooLarge" "TooSlow TooBusy"
 row "\`the old rules stay in use\` on standard error"
 row "\`This capture can't be shown.\`, with status 451"
+row "\`The index doesn't fit the archive.\`, with status 502"
 rows_of_refusals Changed
 row "\`an index in use was changed: replace indexes by mv\` on standard error"
 row "\`the old indexes stay in use\`, and \`/health\` says \`the old indexes are in use\`"

@@ -59,6 +59,7 @@ def commands_of(program: pathlib.Path) -> Iterator[Command]:
         ("warcdx-verify", 1, "--jobs", "2", "digests.warc.gz", "cut.warc.gz"),
         ("warcdx-verify", 1, "--quiet", "--resume", NOTES, "digests.warc.gz", "cut.warc", "digests.warc"),
         ("warcdx-verify", 1, "--quiet", "--jobs", "2", "--resume", NOTES, "cut.warc", "digests.warc"),
+        ("warcdx-fetch", 0, "--index", "page.cdxj", "http://example.com/"),
         ("warcdx-cdx", 0, "to", "a.cdxj"),
         ("warcdx-cdx", 1, "to", "bad.cdxj"),
         ("warcdx-cdx", 1, "from", "bad.cdx", "a.cdx"),

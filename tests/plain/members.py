@@ -1,4 +1,4 @@
-"""Reads archives in either form in the plainest way: whole, in memory, member by member, as docs/COMPRESSED.md says. zlib unpacks."""
+"""Reads archives in either form in the plainest way: whole, in memory, member by member, as docs/RECORDS.md says. zlib unpacks."""
 import zlib
 from typing import NamedTuple, Optional
 

@@ -44,8 +44,10 @@ def a_fault_is_reported_once(program: pathlib.Path, folder: pathlib.Path) -> Non
     """So is an archive that can't be read. Another fault of the same archive is a new one, and so is one that was mended meanwhile."""
     trial = Trial(program, folder)
     (trial.archives / "unread.warc").symlink_to("nothing")
+    (trial.archives / "rotten.warc").symlink_to("/proc/self/mem")  # reading it fails as on a disk that is at fault
     lines = {
         "damaged": "warcdx-update: 07.warc: fault 448 ShortBlock",
+        "rotten": "warcdx-update: rotten.warc: fault 0 Read; left out",
         "unread": "warcdx-update: unread.warc: No such file or directory; left out",
         "other": "warcdx-update: 07.warc: fault 0 Version",
     }
@@ -60,10 +62,11 @@ def a_fault_is_reported_once(program: pathlib.Path, folder: pathlib.Path) -> Non
         expect(f"summary of {name}", [each["archive"] for each in values["unread"]], [each for each, status in wanted.items() if status == 3])
 
     both = {"07.warc": 1, "unread.warc": 3}
-    ends("a first run", 3, said=("damaged", "unread"))
+    ends("a first run", 3, said=("damaged", "rotten", "unread"))
     ends("a second run", 0)
-    expect_faults("a second run", both)
-    ends("a run that reports all", 3, "--all-faults", said=("damaged", "unread"))
+    expect_faults("a second run", {"rotten.warc": 3, **both})
+    ends("a run that reports all", 3, "--all-faults", said=("damaged", "rotten", "unread"))
+    (trial.archives / "rotten.warc").unlink()
     ends("a run after it", 0)
     expect("status", trial.run_usually(), 0)
     expect("line", trial.said[-1].endswith("(12 unchanged, 1 left out, 2 known to be at fault)"), True)

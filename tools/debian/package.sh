@@ -31,7 +31,7 @@ move_code() {
     mv "$1/gateway/warcdx_gateway" "$2"
     for script in "$1"/{python,gateway}/bin/*; do
         mv "$script" "$1"
-        print_start "$script" "/usr/share/warcdx/${script##*/}" > "$1/../../bin/${script##*/}"
+        print_start "${script##*/}" > "$1/../../bin/${script##*/}"
     done
     rmdir "$1"/{python,gateway}/bin "$1"/{python,gateway}
 }
@@ -43,16 +43,32 @@ print_copyright() { # with the terms of the libraries, as a field of more than o
     sed '1,/^Comment: /d' "$root/tools/debian/copyright"
 }
 
-# print_start SCRIPT PATH: prints a start for a Python script, whose path is a word of sh.
+# print_start NAME: prints a start for a Python script of the package, whose modules only Debian's Python finds.
 print_start() {
     cat << END
 #!/bin/sh
-# Runs the Python script ${1##*/}.
+# Runs the Python script $1.
 if [ ! -x /usr/bin/python3 ]; then
+    echo "$1: python3 is missing (Debian's package python3)" >&2
+    exit 3
+fi
+exec /usr/bin/python3 -S /usr/share/warcdx/$1 "\$@"
+END
+}
+
+# print_movable_start SCRIPT: the same for the tar file, whose modules are beside the script, so that any Python finds them. The start takes nothing
+# of the current folder, also if no program is on the PATH.
+print_movable_start() {
+    cat << END
+#!/bin/sh
+# Runs the Python script ${1##*/} by Debian's Python, or else by that of the PATH.
+python=/usr/bin/python3
+if [ ! -x "\$python" ] && ! python=\$(command -v python3); then
     echo "${1##*/}: python3 is missing (Debian's package python3)" >&2
     exit 3
 fi
-exec /usr/bin/python3 -S $2 "\$@"
+place=\$(command -p readlink -f "\$0") || exit 3
+exec "\$python" -S "\${place%/*}/../share/warcdx/$1" "\$@"
 END
 }
 
