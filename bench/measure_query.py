@@ -12,7 +12,7 @@ import sys
 import tempfile
 from urllib.parse import quote_plus
 
-from measuring import Figure, least_times, peak, read_program, report, run_time
+from measuring import Figure, build_by_hand, least_times, peak, read_program, report, run_time
 
 LINES = 1_000_000
 RUNS = 20  # of a query that takes a millisecond
@@ -95,6 +95,11 @@ def main() -> int:
         print(f"{len(pages)} pages of one domain")
 
         query = [program, "query"]
+        by_hand = {}
+        if (hand := build_by_hand(folder)) is not None:
+            if asked(hand, ALL, [whole]) != asked(program, ALL, [whole]):
+                sys.exit("the query by hand gives something else")
+            by_hand["one file as text by hand"] = lambda: run_time([hand, "query", ALL, whole])
         milliseconds = least_times(
             {
                 "one file": lambda: small_time(program, queries, [whole]),
@@ -106,11 +111,13 @@ def main() -> int:
         times = least_times(
             {
                 "merge, 4 files": lambda: run_time([program, "merge", *parts[4]]),
+                "one file as text": lambda: run_time([*query, ALL, whole]),
                 "all as text": lambda: run_time([*query, ALL, *parts[4]]),
                 "all as cdxj": lambda: run_time([*query, ALL + "&output=cdxj", *parts[4]]),
                 "all as json": lambda: run_time([*query, ALL + "&output=json", *parts[4]]),
                 "all by key": lambda: run_time([*query, ALL + "&collapse=urlkey", *parts[4]]),
                 "all by time": lambda: run_time([*query, ALL + "&collapse=timestamp", *parts[4]]),
+                **by_hand,
             }
         )
         merge = times["merge, 4 files"]
@@ -124,6 +131,7 @@ def main() -> int:
             Figure("all lines as json over merge", times["all as json"] / merge, 2),
             Figure("all lines by key over as text", times["all by key"] / times["all as text"], 1.1),
             Figure("all lines by time over as text", times["all by time"] / times["all as text"], 1.1),
+            *(Figure("one file as text over that by hand", times["one file as text"] / times[name], None) for name in by_hand),
             Figure("memory: one file", peak([*query, ALL, whole]) / 1e6, 8, "MB"),
             Figure("memory: 1,024 files", peak([*query, ALL, *parts[1024]]) / 1e6, 32, "MB"),
         ]

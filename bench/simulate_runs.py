@@ -4,8 +4,9 @@
 usage: simulate_runs.py [--lines N] [PROGRAM]
 
 Makes an index of N lines, by default 1,000,000 (TMPDIR, 600 bytes a line), as one file and as the runs that it has after 1,000 equal nights.
-Asks `serve` for captures of one URL and for pages of 100 captures, which are cached, and merges the runs. Then prints a table for indexes of
-10^8, 3 x 10^9 and 10^12 captures. The exit status is 0, or 1 if a goal is missed.
+Asks `serve` for captures of one URL and for pages of 100 captures of a host, after 20,000 other queries, so that what is cached is cached. The
+URLs differ from round to round. Then merges the runs, and prints a table for indexes of 10^8, 3 x 10^9 and 10^12 captures. The exit status
+is 0, or 1 if a goal is missed.
 """
 import pathlib
 import random
@@ -29,6 +30,8 @@ from warcdx.update_merges import Merging
 NIGHTS = 1000
 RATIO = 8
 QUERIES = 600
+QUERIES_BEFORE = 20_000
+ROUNDS = range(3)
 LINE_BYTES = 300
 SIZES = {"10^8": 10**8, "3 x 10^9": 3 * 10**9, "10^12": 10**12}
 LINE = (
@@ -82,10 +85,10 @@ def put_lines(folder: pathlib.Path, lines: int, sizes: Sequence[int]) -> tuple[p
     return one, paths
 
 
-def seconds_of(index: Index, lines: int, limit: int) -> float:
+def seconds_of(index: Index, lines: int, limit: int, seed: object, queries: int = QUERIES) -> float:
     """Returns the time of a query, the median."""
-    choose, times = random.Random(2), []
-    for number in range(QUERIES):
+    choose, times = random.Random(f"{seed}"), []
+    for _ in range(queries):
         host, page = divmod(choose.randrange(lines), 100)
         url = f"http://h{host:06}.com/page/{page:03}" if limit == 1 else f"http://h{host:06}.com/*"
         start = time.perf_counter()
@@ -93,7 +96,7 @@ def seconds_of(index: Index, lines: int, limit: int) -> float:
         times.append(time.perf_counter() - start)
         if not rows:
             sys.exit(f"no capture of {url}")
-    return statistics.median(times[QUERIES // 10 :])
+    return statistics.median(times[queries // 10 :])
 
 
 def main() -> int:
@@ -106,11 +109,11 @@ def main() -> int:
         one, runs = put_lines(pathlib.Path(name), given.lines, nights_of(given.lines * LINE_BYTES).sizes)
         times = {}
         with Index(one, program=str(program)) as whole, Index(runs, program=str(program)) as parts:
+            for index in (whole, parts):
+                seconds_of(index, given.lines, 1, "before", QUERIES_BEFORE)
             for title, limit in (("one URL", 1), ("a page of 100", 100)):
-                for index in (whole, parts):
-                    seconds_of(index, given.lines, limit)
                 times[f"{title}, one file"], times[f"{title}, {len(runs)} runs"] = (
-                    min(seconds_of(index, given.lines, limit) for _ in range(3)) for index in (whole, parts)
+                    min(seconds_of(index, given.lines, limit, number) for number in ROUNDS) for index in (whole, parts)
                 )
         start = time.perf_counter()
         subprocess.run((program, "merge", *runs), stdout=subprocess.DEVNULL, check=True)

@@ -70,6 +70,12 @@ pub unsafe fn controls(bytes: __m128i) -> u32 {
     equal_lanes(_mm_min_epu8(bytes, _mm_set1_epi8(0x1f)), bytes)
 }
 
+/// Returns a bit for each of 16 bytes that is a space or a control character below it.
+#[inline(always)]
+pub unsafe fn hidden(bytes: __m128i) -> u32 {
+    equal_lanes(_mm_min_epu8(bytes, _mm_set1_epi8(0x20)), bytes)
+}
+
 /// Returns the length of the token with which a text begins.
 #[inline(always)]
 pub unsafe fn token_length(text: *const u8) -> usize {

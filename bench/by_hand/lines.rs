@@ -51,20 +51,45 @@ pub struct Line {
     pub offset: u64,
 }
 
+/// What is kept of where the values of a line begin and end.
+pub trait Kept: Copy + Default {
+    fn of(starts: [usize; 7], ends: [usize; 7]) -> Self;
+}
+
+impl Kept for () {
+    #[inline(always)]
+    fn of(_starts: [usize; 7], _ends: [usize; 7]) {}
+}
+
+/// Where all values begin and end in their line.
+#[derive(Clone, Copy, Default)]
+pub struct Values {
+    pub starts: [usize; 7],
+    pub ends: [usize; 7],
+}
+
+impl Kept for Values {
+    #[inline(always)]
+    fn of(starts: [usize; 7], ends: [usize; 7]) -> Self {
+        Values { starts, ends }
+    }
+}
+
 /// An index, and its present line.
-pub struct Source {
+pub struct Source<K = ()> {
     file: File,
     bytes: Vec<u8>,
     next: usize,
     end: usize,
     is_over: bool,
     pub line: Line,
+    pub values: K,
 }
 
-impl Source {
+impl<K: Kept> Source<K> {
     pub fn open(name: &str) -> io::Result<Self> {
         let (file, bytes) = (File::open(name)?, vec![0; PIECE + SPARE]);
-        Ok(Source { file, bytes, next: 0, end: 0, is_over: false, line: Line::default() })
+        Ok(Source { file, bytes, next: 0, end: 0, is_over: false, line: Line::default(), values: K::default() })
     }
 
     /// Goes to the next line. Returns `false` if there is none.
@@ -85,9 +110,10 @@ impl Source {
         unsafe { self.bytes.as_ptr().add(self.line.start) }
     }
 
-    fn take(&mut self, line: Line) {
+    #[inline(always)]
+    fn take(&mut self, (line, values): (Line, K)) {
         self.next = line.start + line.length;
-        self.line = line;
+        (self.line, self.values) = (line, values);
     }
 
     #[cold]
@@ -121,7 +147,7 @@ impl Source {
 
 /// Reads the line that begins at `start`, or returns `None` if no line ends before `end`.
 #[inline(always)]
-unsafe fn scan(bytes: &[u8], start: usize, end: usize) -> Option<Line> {
+unsafe fn scan<K: Kept>(bytes: &[u8], start: usize, end: usize) -> Option<(Line, K)> {
     let text = bytes.as_ptr().add(start);
     let mut quotes = [MaybeUninit::<u64>::uninit(); MOST_WORDS];
     let mut words = 0;
@@ -179,7 +205,7 @@ unsafe fn scan(bytes: &[u8], start: usize, end: usize) -> Option<Line> {
         unusual();
     }
     let Some(offset) = number(text.add(starts[5]), ends[5] - starts[5]) else { unusual() };
-    Some(Line { start, length: length + 1, key, file_name: starts[6], offset })
+    Some((Line { start, length: length + 1, key, file_name: starts[6], offset }, K::of(starts, ends)))
 }
 
 #[inline(always)]

@@ -1,4 +1,4 @@
-//! `list`, `index`, `check` and `merge` of warcdx by hand, with unsafe code: how fast they could be.
+//! `list`, `index`, `check`, `merge` and a `query` of warcdx by hand, with unsafe code: how fast they could be.
 //!
 //! They check what warcdx checks and write what it writes, but take archives and indexes in the usual form alone: each
 //! record of a crawler with CR LF, its payload's digest given, and each line as `warcdx index` writes it. At anything
@@ -12,6 +12,7 @@ mod lanes;
 mod lines;
 mod merging;
 mod numbers;
+mod querying;
 
 use std::io::{self, Write};
 use std::process::{ExitCode, exit};
@@ -53,6 +54,7 @@ fn run(arguments: &[String]) -> io::Result<()> {
             "index" => archives::index(files),
             "check" => merging::check(files),
             "merge" => merging::merge(files),
+            "query" => querying::query(files),
             _ => unusual(),
         },
         _ => unusual(),
