@@ -6,11 +6,11 @@ usage: check_proved.py
 Each clause that a table names for a call has to be in its contract. If the tables name a clause of a
 call, they have to name all of them. A call without a clause stands for its whole contract. The row of
 the calls that have a condition for the caller has to name each call of a door that has one. The
-tables have to name each law, which is a public function of a file laws.rt. The calls of the table
-of wrong bodies have to exist.
+tables have to name each law, which is a public function of a file laws.rt, and the root of its crate
+has to pass it on. The calls of the table of wrong bodies have to exist.
 
 Prints a line for each clause, and the counts. The exit status is 0, or 1 if a call or a clause
-doesn't exist, or a clause or a condition isn't named.
+doesn't exist, or a clause, a condition or a law isn't named, or a law isn't passed on.
 """
 import re
 import sys
@@ -111,14 +111,18 @@ def check_conditions(report: Report, found: Contracts) -> None:
 
 
 def check_laws(report: Report, named: set[Call]) -> None:
-    """Looks for laws that aren't named."""
+    """Looks for laws that aren't named, or that nobody outside of their crate can call."""
     for path in sorted(ROOT.glob("crates/*/src/laws.rt")):
+        root = path.with_name("lib.rt").read_text()
+        shown = {name for _, names_of in PASSED_ON.findall(root) for name in re.findall(r"\w+", names_of)}
         for law in LAW.findall(path.read_text()):
             title = f"{path.relative_to(ROOT)}: {law}"
-            if any(call.name == law for call in named):
-                report.add_ok(title)
-            else:
+            if not any(call.name == law for call in named):
                 report.add_difference(title, "the page doesn't name it")
+            elif law not in shown and "pub mod laws;" not in root:
+                report.add_difference(title, "lib.rt doesn't pass it on")
+            else:
+                report.add_ok(title)
 
 
 def check_bodies(report: Report, found: Contracts) -> None:
