@@ -29,3 +29,4 @@ pub mod PackedFetchLemmas
 pub mod FormListLemmas
 pub mod MemberRowLemmas
 pub mod GrownLemmas
+pub mod MemberOneText

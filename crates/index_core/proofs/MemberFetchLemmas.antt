@@ -324,7 +324,7 @@ not_begun_at asked old left members.Cut w b =
     fault_there asked old.passed w w _ (file_ahead old) refl (some_known (file_ahead old) λ bytes e.
     let k = within_known old.passed old.ahead bytes e in
     elim (b bytes k.0 k.1) [
-      | inl s ↦ inr (inr (inr (members.Cut, s, refl)))
+      | inl s ↦ inr (inr (inr (s, refl)))
       | inr s ↦ inr (inr (inl (s.0, holds_fault HEAD_LIMIT bytes _ s.1)))
     ])
 not_begun_at asked old left members.TooFar w b =

@@ -30,7 +30,7 @@ module _ (bytes text behind : List ℕ) (is : HoldsRecord HEAD_LIMIT bytes text 
   no_damage cause (inl memory) = inl memory
   no_damage cause (inr (inl read)) = inr read
   no_damage cause (inr (inr (inl (begins, e)))) = absurd (let k = sym e ∙ is.holds in cc)
-  no_damage cause (inr (inr (inr (fault, e, same)))) = absurd (let k = sym e ∙ is.begins in cc)
+  no_damage cause (inr (inr (inr (e, same)))) = absurd (let k = sym e ∙ is.begins in cc)
 
   wrote : (asked : Option ℕ) (offset : ℕ) → IsOfLength asked (length bytes - length behind)
       → (result : Result ℕ IndexFault) (before after : Option (List ℕ))

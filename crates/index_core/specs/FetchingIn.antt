@@ -4,7 +4,7 @@ use Rattle.std.specs.Prelude.{Result, Ok, Err, IfSome, option_map, Bool, []}
 use Rattle.std.specs.Io.KnownBytes.{Appends}
 use Rattle.devices.specs.Device.{AppendsPrefix}
 use Rattle.gzip_members.specs.declared.fault.MemberFault.{MemberFault}
-use Rattle.gzip_members.specs.declared.fault.MemberFault.TheVariants.{NoMember}
+use Rattle.gzip_members.specs.declared.fault.MemberFault.TheVariants.{Cut, NoMember}
 use Rattle.gzip_members.specs.Members.{member_in}
 use Rattle.gzip_members.specs.Starts.{begins_member}
 use Rattle.warc_core.specs.declared.next.TheConstants.{HEAD_LIMIT}
@@ -42,8 +42,7 @@ module _ (limit : ℕ) (bytes : List ℕ) where
   -- why none of them is read as a record
   abbrev pub IsMemberFault : Cause → Type 0
   IsMemberFault cause = (cause ≡ causes.Memory) ⊎ ((cause ≡ causes.Read) ⊎ ((begins_member bytes ≡ Ok true
-      × (member_holds limit bytes ≡ Err cause)) ⊎ ((fault : _) × (begins_member bytes ≡ Err fault)
-      × (cause ≡ member_cause fault))))
+      × (member_holds limit bytes ≡ Err cause)) ⊎ ((begins_member bytes ≡ Err Cut) × (cause ≡ causes.CutMember))))
 
   -- at most the text of their member is written, where that has one
   abbrev pub WritesOfMember : Option (List ℕ) → Option (List ℕ) → Type 0

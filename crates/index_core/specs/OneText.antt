@@ -1,5 +1,5 @@
 -- Laws that what is known of an archive decides what a call answers and writes.
-use Rattle.std.specs.Prelude.{◌≡◌, ℕ, ⊤, ◌⊎◌, Bool, List, ◌++◌, Option, Some, Result, Ok, Err, IfErr}
+use Rattle.std.specs.Prelude.{◌≡◌, ℕ, ⊤, ◌⊎◌, Bool, List, ◌++◌, Option, Some, Result, Ok, Err, IfErr, IfOk}
 use Rattle.std.specs.Io.KnownBytes.{Appends}
 use Rattle.devices.specs.Device.{AppendsPrefix}
 use Rattle.devices.specs.Writing.{WritesText}
@@ -13,6 +13,7 @@ use Rattle.index_core.specs.declared.fault.IndexFault.TheVariants as faults
 use Rattle.index_core.specs.Adding.{Adds, with_archive}
 use Rattle.index_core.specs.Fetching.{Fetches, IsMetBefore}
 use Rattle.index_core.specs.FetchingAt.{FetchesAt}
+use Rattle.index_core.specs.FetchingIn.{FetchesMember}
 use Rattle.archives.specs.Contents.{contents}
 use Rattle.archives.specs.Packing.{Packing, form_to}
 use Rattle.index_core.specs.Indexing.{Held, index_text}
@@ -97,6 +98,18 @@ FetchesAtOneText = (limit offset len : ℕ) (archive : List ℕ)
 abbrev pub FetchesAtFront : Type 0
 FetchesAtFront = (limit offset len : ℕ) (archive : List ℕ)
     → PromisesFront (FetchesAt limit offset len (Some archive))
+
+-- The record of the member at an offset is one too. It is one text; where a device fails, a front of it was written.
+abbrev pub FetchesMemberOneText : Type 0
+FetchesMemberOneText = (limit offset : ℕ) (asked : Option ℕ) (bytes before : List ℕ) (this that : Result ℕ IndexFault)
+    (text other : Option (List ℕ)) → IsOfArchive this → IsOfArchive that
+    → FetchesMember limit asked offset (Some bytes) this (Some before) text
+    → FetchesMember limit asked offset (Some bytes) that (Some before) other
+    → (this ≡ that) × IfOk this (λ n. text ≡ other)
+
+abbrev pub FetchesMemberFront : Type 0
+FetchesMemberFront = (limit offset : ℕ) (asked : Option ℕ) (bytes : List ℕ)
+    → PromisesFront (FetchesMember limit asked offset (Some bytes))
 
 -- ---- indexes
 

@@ -13,7 +13,7 @@ ghost use Rattle.index_core.specs.PackedLaws.{MembersHaveCaptures};
 ghost use Rattle.index_core.specs.Listing.{listing};
 ghost use Rattle.index_core.specs.OneText.{IsReport, FetchesOneText, FetchesFront, FetchesAtOneText};
 ghost use Rattle.index_core.specs.OneText.{FetchesAtFront, AddsOneList, AddsFirst, WritesOneIndex};
-ghost use Rattle.index_core.specs.OneText.{WritesIndexFront};
+ghost use Rattle.index_core.specs.OneText.{FetchesMemberFront, FetchesMemberOneText, WritesIndexFront};
 ghost use Rattle.index_core.specs.Verifying.{verification};
 
 /// An archive of either form that is accepted whole has one list of captures. So has a plain one
@@ -118,6 +118,8 @@ pub fn get_writes_one_text()
     ensures offset_front { FetchesFront }
     ensures length { FetchesAtOneText }
     ensures length_front { FetchesAtFront }
+    ensures member { FetchesMemberOneText }
+    ensures member_front { FetchesMemberFront }
 {}
 
 /// Unless a device fails or memory can't be allocated, `list` returns and writes the listing of the
