@@ -7,7 +7,7 @@ use Rattle.page_core.proofs.PageLaws.{chain_one}
 use Rattle.query_core.specs.CountLaws.{AnswerCountsAreOne, ServingCountsAreOne, SourceCountIsOne}
 use Rattle.query_core.specs.Fronts.{AnswerHasFront, MergeHasFront, PagesHaveFront, RepliesHaveFront}
 use Rattle.query_core.proofs.ReplyLemmas.{replies_one}
-use Rattle.query_core.specs.Replies.{marked_reply}
+use Rattle.query_core.specs.{OneText.ConversationIsOne, Replies.marked_reply}
 
 -- ---- fronts
 
@@ -35,6 +35,14 @@ replies_front told input old part whole fault number (first, later, some, cut, e
     let longer = prefix_longer (Some old) part (flat_map (λ text. text) some) rest p in
     let joined : flat_map (λ text. text) some ++ rest ≡ flat_map (λ text. text) all = grind (arith, flat_map-append) in
     front_of old (flat_map (λ text. text) all) part whole (rw (sym joined) longer) w
+
+-- a conversation over indexes writes one text
+pub conversation_one : ConversationIsOne
+conversation_one told input old new new' number number' (small, counted, texts, each, w) (small', counted', texts', each', w')
+    these indexes known are =
+    let one = replies_one told _ texts each these indexes known are in
+    let other = replies_one told _ texts' each' these indexes known are in
+    grind arith
 
 -- ---- counts
 

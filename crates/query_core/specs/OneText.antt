@@ -10,7 +10,7 @@ use Rattle.query_core.specs.declared.fault.AnswerFault.{AnswerFault}
 use Rattle.query_core.specs.declared.report.Report.{Report}
 use Rattle.query_core.specs.Answering.{WritesAnswer}
 use Rattle.query_core.specs.AnyReplies.{IsTextReply}
-use Rattle.query_core.specs.Conversations.{IsMarkedReply}
+use Rattle.query_core.specs.Conversations.{Converses, IsMarkedReply}
 use Rattle.query_core.specs.Paging.{WritesPages}
 use Rattle.query_core.specs.Replies.{marked_reply, reply_of}
 
@@ -35,3 +35,10 @@ abbrev pub RepliesAreOne : Type 0
 RepliesAreOne = (told : List (Option (List ℕ))) (lines texts : List (List ℕ))
     → AllZip (IsMarkedReply QUERY_LIMIT (IsTextReply told)) lines texts → OverIndexes told (λ _ indexes.
     flat_map (λ text. text) texts ≡ flat_map (marked_reply QUERY_LIMIT (reply_of QUERY_LIMIT (collection indexes))) lines)
+
+-- and a conversation over them that succeeds writes one text
+abbrev pub ConversationIsOne : Type 0
+ConversationIsOne = (told : List (Option (List ℕ))) (input old : List ℕ) (new new' : Option (List ℕ))
+    (number number' : ℕ) → Converses QUERY_LIMIT (IsTextReply told) (Ok number) (Some input) (Some old) new
+    → Converses QUERY_LIMIT (IsTextReply told) (Ok number') (Some input) (Some old) new'
+    → OverIndexes told (λ _ _. (new ≡ new') × (number ≡ number'))

@@ -11,7 +11,8 @@ ghost use Rattle.query_core.specs.Limits.{LINE_LIMIT, QUERY_LIMIT};
 ghost use Rattle.query_core.specs.MergeLaws.{KeptIsIndex, MergedIsIndex, MergesCommute};
 ghost use Rattle.query_core.specs.MergeLaws.{MergesDropFiles, MergesGroup};
 ghost use Rattle.query_core.specs.NothingAsked.{AppendedSelectsNothing, EmptyIsRefused};
-ghost use Rattle.query_core.specs.OneText.{AnswerIsOne, MergeIsOne, PagesAreOne, RepliesAreOne};
+ghost use Rattle.query_core.specs.OneText.{AnswerIsOne, ConversationIsOne, MergeIsOne};
+ghost use Rattle.query_core.specs.OneText.{PagesAreOne, RepliesAreOne};
 ghost use Rattle.query_core.specs.PageLines.{EmptyLineIsBeforeKey, JsonLinesBeginWithBrackets};
 ghost use Rattle.query_core.specs.PageLines.{NoPageHasFaults, OneFieldHasMarks, OneFieldHasNoSpace};
 ghost use Rattle.query_core.specs.PageLines.{TwoFieldsBeginAsRefusals};
@@ -146,6 +147,12 @@ pub fn merge_writes_one_text()
 #[tactic(auto, using(crate::proofs::ReplyLemmas::replies_one))]
 pub fn replies_over_indexes_are_one()
     ensures { RepliesAreOne }
+{}
+
+/// Over indexes, and an input and an output whose bytes are known, there is one text that a conversation that succeeds
+/// writes, and one number of replies.
+pub fn conversation_over_indexes_writes_one_text()
+    ensures { ConversationIsOne }
 {}
 
 /// Of the same lines, and over an output whose bytes are known, a call that fails has written a front of what one that

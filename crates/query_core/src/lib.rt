@@ -29,11 +29,12 @@ pub use crate::fault::AnswerFault;
 pub use crate::laws::{
     added_indexes_only_add, answer_writes_one_text, answers_decide_counts,
     appended_condition_selects_nothing, cdxj_pages_are_indexes, checked_texts_are_indexes,
-    dropped_files_leave_the_rest, faults_leave_a_front, indexes_have_no_line_at_fault,
-    limits_are_these, merge_writes_one_text, merged_lines_are_an_index, merges_compose,
-    names_name_fields, pages_are_selected, pages_of_growing_indexes_lose_none, pages_rise,
-    pages_write_one_text, queries_in_turn_are_the_chain, replies_are_told_from_pages,
-    replies_over_indexes_are_one, resume_keys_continue,
+    conversation_over_indexes_writes_one_text, dropped_files_leave_the_rest, faults_leave_a_front,
+    indexes_have_no_line_at_fault, limits_are_these, merge_writes_one_text,
+    merged_lines_are_an_index, merges_compose, names_name_fields, pages_are_selected,
+    pages_of_growing_indexes_lose_none, pages_rise, pages_write_one_text,
+    queries_in_turn_are_the_chain, replies_are_told_from_pages, replies_over_indexes_are_one,
+    resume_keys_continue,
 };
 pub use crate::merging::{SOURCES_LIMIT, merge};
 pub use crate::paging::pages;
