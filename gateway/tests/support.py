@@ -88,8 +88,9 @@ class Client:
         return Response(int(status[1]), fields, body)
 
     def ask(self, target: str, method: str = "GET", **fields: str) -> Response:
+        fields = {"Host": "localhost", **fields}
         head = "".join(f"{name.replace('_', '-')}: {value}\r\n" for name, value in fields.items())
-        self.send(f"{method} {target} HTTP/1.1\r\nHost: localhost\r\n{head}\r\n".encode())
+        self.send(f"{method} {target} HTTP/1.1\r\n{head}\r\n".encode())
         return self.response(method == "HEAD")
 
     def begin(self, target: str) -> None:

@@ -269,6 +269,51 @@ class Requests(Case):
             self.assertEqual((400, "refused BadBody: the body of the request can't be read\n"), (found.status, found.text))
         self.assertEqual("", self.server.said.read_text())
 
+    def test_a_body_in_chunks_that_ends_too_early_or_never(self) -> None:
+        """None keeps a worker, though gunicorn would ask for ever for the end of a chunk, and hold any size of one."""
+        body = b"url=example.com/a&fl=length"
+        for sent in (
+            b"1b\r\n" + body, b"1b\r\n" + body + b"\r", b"\r\n", b"1b\r\n" + body + b"\r\n0\r\nbad\r\n\r\n",
+            b"1b;" + b"x" * (3 << 20), b"1" * 5000,
+        ):  # fmt: skip
+            with connected(self.server) as client:
+                client.send(b"POST /cdx HTTP/1.1\r\nHost: localhost\r\nContent-Type: application/x-www-form-urlencoded\r\n")
+                with contextlib.suppress(ConnectionError):  # it is answered before it is taken
+                    client.send(b"Transfer-Encoding: chunked\r\n\r\n" + sent)
+                    client.socket.shutdown(socket.SHUT_WR)
+                client.socket.settimeout(20)
+                with contextlib.suppress(ConnectionResetError):
+                    found = client.response()
+                    self.assertEqual((400, "refused BadBody: the body of the request can't be read\n"), (found.status, found.text), sent[:40])
+        self.assertEqual("", self.server.said.read_text())
+
+    def test_what_servers_read_in_different_ways_is_refused(self) -> None:
+        """So a server in front and the gateway never see two requests in one, or other fields."""
+        query, body = b"/cdx?url=example.com/a&fl=length", b"url=example.com/a&fl=length"
+        form = b"POST /cdx HTTP/1.1\r\nHost: localhost\r\nContent-Type: application/x-www-form-urlencoded\r\nContent-Length:%s\r\n\r\n" + body
+        get = b"GET %s HTTP/%s\r\n%s\r\n\r\n"
+        for status, request in (
+            *((200, form % length) for length in (b"27", b" 27", b"\t27 ", b"0027")),
+            *((400, form % length) for length in (b"+27", b"-0", b"2_7", b"27,27", b"0x1b", b"\x0b27", b"\xa027", b"27\x0c", b"")),
+            *((200, get % (query, version, b"Host: localhost")) for version in (b"1.1", b"1.0")),
+            *((400, get % (query, version, b"Host: localhost")) for version in (b"0.9", b"1.2", b"2.0", b"1" * 5000 + b".1", b"1.1\t")),
+            (400, get % (query, b"1.1", b"A: b")), (200, get % (query, b"1.0", b"A: b")),
+            (400, get % (query, b"1.1", b"Host: localhost\r\nHost: localhost")),
+            *((400, get % (query, b"1.1", b"Host: localhost\r\nA: b" + end + b"B: c")) for end in (b"\n", b"\r", b"\0", b"\r\r")),
+            (400, get % (query, b"1.1", b"Host: localhost\nA: b")), (400, get % (query, b"1.1", b"Host: localhost\r\nA\n: b")),
+            *((400, get % (query[:5] + each + query[5:], b"1.1", b"Host: localhost")) for each in (b"\n", b"\r", b"\0", b"\t", b"\x1b")),
+            (200, get % (query, b"1.1", b"Host: localhost\r\nScript_Name: /x\r\nX_Forwarded_For: 1.2.3.4\r\nContent_Length: 9")),
+        ):  # fmt: skip
+            with connected(self.server) as client:
+                client.send(request)
+                with self.subTest(request[-100:]):
+                    self.assertEqual(status, client.response().status)
+        with connected(self.server) as client:  # without CR there is no line
+            client.send(b"GET " + query + b" HTTP/1.1\nHost: localhost\n\n")
+            client.socket.shutdown(socket.SHUT_WR)
+            self.assertEqual(b"", client.input.read())
+        self.assertEqual("", self.server.said.read_text())
+
     def test_a_line_of_the_access_log_has_no_controls(self) -> None:
         log = self.folder / "log"
         server = self.start(head=f'access_log = "{log}"\nworkers = 2\n')

@@ -1,4 +1,5 @@
 """HTTP: keep-alive, HEAD, OPTIONS, CORS, tags, compression, limits, health and metrics."""
+import contextlib
 import os
 import pathlib
 import re
@@ -62,7 +63,8 @@ class Http(Shared):
         ):  # fmt: skip
             with connected(self.server) as client:
                 client.send(f"{form}{field}\r\n\r\n".encode() + sent)
-                client.socket.shutdown(socket.SHUT_WR)
+                with contextlib.suppress(OSError):  # it is answered before all of it is read
+                    client.socket.shutdown(socket.SHUT_WR)
                 self.assertEqual(status, client.response().status, (field, sent[:50]))
         with connected(self.server) as client:
             client.send(b"POST /wayback/available HTTP/1.1\r\nHost: localhost\r\nContent-Length: 40\r\n\r\nurl=example.com")
@@ -131,14 +133,14 @@ class Http(Shared):
 
     def test_bad_requests_are_refused(self) -> None:
         for request, statuses in (
-            (b"GET /cdx?url=a b HTTP/1.1\r\n\r\n", (400,)),
-            (b"GET /cdx?url=\xff HTTP/1.1\r\n\r\n", (400,)),
-            (b"GET /cdx?url=" + b"a" * 65_000 + b" HTTP/1.1\r\n\r\n", (200,)),
-            (b"GET /cdx?url=" + b"a" * 65_533 + b" HTTP/1.1\r\n\r\n", (400,)),
-            (b"GET /cdx?url=" + b"a" * 80_000 + b" HTTP/1.1\r\n\r\n", (400,)),
-            (b"GET /cdx?url=a HTTP/1.1\r\nX: " + b"a" * 9000 + b"\r\n\r\n", (400,)),
-            (b"GET /cdx?url=a HTTP/1.1\r\n" + b"X: a\r\n" * 200 + b"\r\n", (400,)),
-            (b"GET /cdx?url=a HTTP/9.9\r\n\r\n", (200, 400)),
+            (b"GET /cdx?url=a b HTTP/1.1\r\nHost: localhost\r\n\r\n", (400,)),
+            (b"GET /cdx?url=\xff HTTP/1.1\r\nHost: localhost\r\n\r\n", (400,)),
+            (b"GET /cdx?url=" + b"a" * 65_000 + b" HTTP/1.1\r\nHost: localhost\r\n\r\n", (200,)),
+            (b"GET /cdx?url=" + b"a" * 65_533 + b" HTTP/1.1\r\nHost: localhost\r\n\r\n", (400,)),
+            (b"GET /cdx?url=" + b"a" * 80_000 + b" HTTP/1.1\r\nHost: localhost\r\n\r\n", (400,)),
+            (b"GET /cdx?url=a HTTP/1.1\r\nHost: localhost\r\nX: " + b"a" * 9000 + b"\r\n\r\n", (400,)),
+            (b"GET /cdx?url=a HTTP/1.1\r\nHost: localhost\r\n" + b"X: a\r\n" * 200 + b"\r\n", (400,)),
+            (b"GET /cdx?url=a HTTP/9.9\r\nHost: localhost\r\n\r\n", (400,)),
             (b"\x16\x03\x01\x00\n\r\n", (400,)),
         ):
             with self.subTest(request[:30]), connected(self.server) as client:

@@ -9,7 +9,7 @@ from typing import Any, Optional
 from urllib.parse import urlsplit
 from wsgiref.types import StartResponse, WSGIApplication, WSGIEnvironment
 
-from gunicorn.http.errors import ChunkMissingTerminator, InvalidChunkSize, NoMoreData
+from gunicorn.http.errors import ChunkMissingTerminator, InvalidChunkSize, NoMoreData, ParseException
 from werkzeug.exceptions import HTTPException, NotFound, RequestEntityTooLarge
 from werkzeug.routing import Map, Rule
 from werkzeug.wrappers import Request, Response
@@ -30,7 +30,7 @@ from .waiting import address_of
 from .work import MOST_FREE, Work
 
 METHODS = ("GET", "HEAD")
-BAD_BODIES = (ChunkMissingTerminator, InvalidChunkSize, NoMoreData)
+BAD_BODIES = (ChunkMissingTerminator, InvalidChunkSize, NoMoreData, ParseException, ValueError)
 # What links begin with, as browsers read it: no other character may stand in it.
 HOST = re.compile(r"([A-Za-z0-9._-]+|\[[0-9A-Fa-f:.]+\])(:[0-9]{1,5})?")
 ORIGIN = re.compile(r"^[A-Za-z][A-Za-z0-9+.-]*://[^/?]*")  # before the path in the line of a request
@@ -40,6 +40,7 @@ KINDS = {Output.TEXT: TEXT, Output.JSON: "application/json", Output.CDXJ: TEXT, 
 WAYBACK_PATHS = ("/cdx", "/cdx/search", "/cdx/search/cdx", "/cdx/search/xd", "/web/timemap", "/web/timemap/cdx", "/web/timemap/json")
 MODULES = ("memento", "clients", "browse")  # each has `rules()`
 MOST_BODY = 1 << 17  # bytes of a request
+TOO_LONG = RequestEntityTooLarge(f"a body has at most {MOST_BODY} bytes")
 MOST_PATHS = 64  # whose rules are remembered
 HEALTH_SECONDS = 5
 LOOKS = 0.25  # seconds between two looks at the words of the master
@@ -53,11 +54,15 @@ class GatewayRequest(Request):
     @functools.cached_property
     def body(self) -> bytes:
         """The body as it was sent. Raises Refusal if it is cut, or RequestEntityTooLarge."""
-        size = self.content_length
-        found = b"" if (size or 0) > MOST_BODY else self.stream.read(MOST_BODY + 1)
-        if max(size or 0, len(found)) > MOST_BODY:
-            raise RequestEntityTooLarge(f"a body has at most {MOST_BODY} bytes")
-        if len(found) < (size or 0):
+        if (self.content_length or 0) > MOST_BODY:
+            raise TOO_LONG
+        try:
+            found = self.stream.read(MOST_BODY + 1)
+        except BAD_BODIES:
+            raise bad_body() from None
+        if len(found) > MOST_BODY:
+            raise TOO_LONG
+        if len(found) < (self.content_length or 0):
             raise bad_body()
         return found
 
@@ -253,8 +258,6 @@ class Gateway:
             error = program_refusal(error.name, request.args)
         elif isinstance(error, ReplyTooLate):
             error = Refusal("TooSlow", "", "it takes too long; restrict the query", status=503)
-        elif isinstance(error, BAD_BODIES):
-            error = bad_body()
         elif isinstance(error, (ReplyTooLong, MemoryError)):
             error = Refusal("TooLarge", "", "it takes too much memory; restrict the query")
         if isinstance(error, Refusal):

@@ -7,12 +7,15 @@ import time
 from collections.abc import Callable
 from typing import Optional
 
+from gunicorn.http.errors import NoMoreData
+
 from .refusal import Refusal
 
 FREE = 0.05  # seconds of the processor that a request has without a slot
 LONGEST = 0.3  # seconds until it needs one in any case
 MOST_FREE = 200_000  # bytes of an answer without a slot, which the system takes at once
 PATIENCE = 1.0  # seconds until a client that has closed its side has left
+MOST_HEARD = 1 << 21  # bytes of a request, whose body may be in chunks
 
 
 class Lease(enum.Enum):
@@ -45,14 +48,19 @@ class Connection(socket.socket):
         self.arrived = arrived
         self.heard = bytearray(heard)
         self._again = heard  # what is still to be read again
+        self._has_ended = False
 
     def recv(self, size: int, flags: int = 0) -> bytes:
+        """Returns what follows. Raises NoMoreData the second time that it is the end, for which gunicorn would ask for ever."""
         if flags:
             return super().recv(size, flags)
         piece, self._again = self._again[:size], self._again[size:]
         if not piece:
             piece = super().recv(size)
             self.heard += piece
+            if len(self.heard) > MOST_HEARD or self._has_ended and not piece:
+                raise NoMoreData
+            self._has_ended = not piece
         return piece
 
     def passed_on(self, lease: Lease) -> "Connection":

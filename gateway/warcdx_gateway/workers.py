@@ -1,6 +1,7 @@
 """The master and its workers, as gunicorn runs them."""
 import contextlib
 import os
+import re
 import select
 import signal
 import socket
@@ -14,7 +15,7 @@ import gunicorn.arbiter
 import gunicorn.glogging
 import gunicorn.systemd
 import gunicorn.workers.sync
-from gunicorn.http.errors import InvalidHeader, UnsupportedTransferCoding
+from gunicorn.http.errors import InvalidHeader, InvalidHTTPVersion, InvalidRequestLine, UnsupportedTransferCoding
 
 from .refusal import NAME, without_controls
 from .waiting import COSTLY_LEVEL, address_of, queue_of
@@ -23,6 +24,10 @@ from .work import MOST_FREE, Connection, Lease, NeedsSlot
 ENDS = (signal.SIGTERM, signal.SIGINT, signal.SIGQUIT, signal.SIGABRT)
 SILENCE = 2  # seconds for a client to send its request when a worker ends
 PAUSE = 0.05  # seconds until a worker looks again for a slot for those that wait
+VERSIONS = ((1, 0), (1, 1))
+_CONTROL = re.compile("[\0-\x1f\x7f]")  # which no target of a request has
+_END = re.compile("[\0\r\n]")  # what other servers may take for the end of a field
+_NUMBER = re.compile("[0-9]+")
 
 
 class Sign:
@@ -173,9 +178,10 @@ class Worker(gunicorn.workers.sync.SyncWorker):
             self.is_reading = False
 
     def handle_request(self, listener: Any, req: Any, client: Connection, addr: Any) -> None:
-        """Answers a request. gunicorn would take a field SCRIPT_NAME of the client for its own."""
+        """Answers a request. gunicorn would take `_` in the name of a field for `-`, and SCRIPT_NAME for its own."""
         self.is_reading = False
-        req.headers = [each for each in req.headers if each[0] != "SCRIPT_NAME"]
+        req.headers = [each for each in req.headers if "_" not in each[0]]
+        expect_plain(req)
         forwarded = [value for name, value in req.headers if name == "X-FORWARDED-FOR"]
         address = address_of(str(addr[0]) if addr else "", "".join(forwarded[-1:]))
         # Two requests with bodies may have one URI, and differ in what they cost.
@@ -195,9 +201,11 @@ class Worker(gunicorn.workers.sync.SyncWorker):
             self._answer(client.passed_on(Lease.NONE))
 
     def handle_error(self, req: Any, client: Any, addr: Any, exc: BaseException) -> None:
-        """Refuses a request that can't be read, also one with a transfer coding, which gunicorn takes for a fault of its own."""
+        """Refuses a request that can't be read, also one that gunicorn takes for a fault of its own."""
         if isinstance(exc, UnsupportedTransferCoding):
             exc = InvalidHeader("Transfer-Encoding", req)
+        elif req is None and isinstance(exc, ValueError):  # a number of a thousand digits
+            exc = InvalidRequestLine(exc)
         super().handle_error(req, client, addr, exc)
 
     def accept(self, listener: Any) -> bool:
@@ -217,6 +225,24 @@ class Worker(gunicorn.workers.sync.SyncWorker):
         connection.setsockopt(socket.SOL_SOCKET, socket.SO_SNDBUF, MOST_FREE)
         self.handle(listener, connection, address)
         return True
+
+
+def expect_plain(req: Any) -> None:
+    """Raises what gunicorn answers with status 400, for a request that it takes and other servers read otherwise.
+
+    RFC 9112 asks for it: a target is a URI (3), there is one field Host (3.2), and a length has digits alone (6.2). What
+    a server in front reads as two fields, or as another length, could hide a request from it.
+    """
+    if req.version not in VERSIONS:
+        raise InvalidHTTPVersion("another one than 1.0 and 1.1")
+    if _CONTROL.search(req.uri):
+        raise InvalidRequestLine(req.uri)
+    for name, value in req.headers:
+        if _END.search(value) or name == "CONTENT-LENGTH" and not _NUMBER.fullmatch(value.rstrip(" \t")):
+            raise InvalidHeader(name, req)
+    hosts = [name for name, _ in req.headers].count("HOST")
+    if hosts > 1 or not hosts and req.version > (1, 0):
+        raise InvalidHeader("Host", req)
 
 
 def poll_of(readable: Iterable[Any]) -> "select.poll":
