@@ -254,6 +254,16 @@ class Unlisted(Shared):
             self.assertEqual((404, b"refused NotFound: there is no such collection\n"), (found.status, found.body), path)
         self.assertEqual(200, self.server.ask("http://localhost/private/cdx?url=example.com").status)
 
+    def test_its_path_has_no_way_out(self) -> None:
+        """A server in front compares a path without its `..`, as nginx does, and sends it as it came: then none may be in it."""
+        for path in ("timegate/http://example.com/..", "2016id_/http://example.com/%2e%2e/%2E./..", "timemap/link/http://example.com/..?x", "cdx/../../cdx"):
+            path += "" if "?" in path else "/../../../../cdx"
+            found = self.server.ask(f"/private/{path}")
+            self.assertEqual((404, b"refused NotFound: there is no such collection\n"), (found.status, found.body), path)
+            self.assertNotIn(b"no such collection", self.server.ask(f"/open/{path}").body)
+        self.assertEqual(b"there is no capture of this URL\n", self.server.ask("/private/timegate/http://example.com/?x=/../..").body)
+        self.assertEqual(200, self.server.ask("/private/cdx?url=example.com/x/../a").status)
+
     def test_it_can_not_be_the_main_one(self) -> None:
         from warcdx_gateway.settings import settings_of
 

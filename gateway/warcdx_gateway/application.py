@@ -6,7 +6,7 @@ import re
 import time
 from collections.abc import Callable, Generator, Iterable, Iterator, Mapping
 from typing import Any, Optional
-from urllib.parse import urlsplit
+from urllib.parse import unquote, urlsplit
 from wsgiref.types import StartResponse, WSGIApplication, WSGIEnvironment
 
 from gunicorn.http.errors import ChunkMissingTerminator, InvalidChunkSize, NoMoreData, ParseException
@@ -239,8 +239,7 @@ class Gateway:
             name = values.get("collection", self.settings.main if is_main else "")
             name = name if name in self.collections else ""
             is_listed = not name or self.collections[name].settings.listed
-            if not is_listed and not sent_path(request).startswith(f"/{name}/"):
-                # So a server in front can close it by the front of its paths, also one that compares them as they are sent.
+            if not is_listed and not stays_below(f"/{name}/", sent_path(request)):
                 name = ""
                 raise NotFound("there is no such collection")
             handler: Any = found.endpoint
@@ -302,6 +301,11 @@ def sent_path(request: Request) -> str:
     """Returns the path as it was sent, with its escapes and its query."""
     sent = str(request.environ.get("RAW_URI") or request.environ.get("REQUEST_URI") or "")
     return ORIGIN.sub("", sent, count=1)
+
+
+def stays_below(front: str, sent: str) -> bool:
+    """Returns whether a path has this front, as it is sent and without its `..`: a server in front may compare either."""
+    return sent.startswith(front) and ".." not in unquote(sent.partition("?")[0]).split("/")
 
 
 def rule(path: str, handler: Handler, methods: Iterable[str] = METHODS) -> Rule:
