@@ -1,12 +1,15 @@
 """Records that aren't those of their lines, as after an archive was replaced by another one of its name."""
+import re
 import unittest
 from collections.abc import Sequence
 from unittest import mock
+from urllib.parse import urlencode
 
 from . import browse_support as support
 from .browse_support import Archives, page, record, response, revisit, text_of
 
 from warcdx_gateway.browse import fitting
+from warcdx_gateway.rules import Rule, Rules, plain_digest
 
 HOME = "http://example.com/"
 DATE, STAMP = "2016-03-03T09:34:31Z", "20160303093431"
@@ -93,11 +96,40 @@ class Replaced(support.Pages):
                         answer = self.client.get(path, headers=headers)
                         self.assertEqual((502, True), (answer.status_code, answer.text.startswith(MISFIT)), answer.text)
 
+    def test_a_client_does_not_keep_what_an_archive_held_before(self) -> None:
+        """The other record fits its line, so that only its archive shows that the payload may be another one."""
+        download = f"/crawl/browse/download?{urlencode({'what': 'payload', **self.place_of('original')})}"
+        for path in (self.raw("original"), self.raw("revisit"), download):
+            first = self.client.get(path)
+            known = {"If-None-Match": first.headers["ETag"]}
+            self.assertEqual(304, self.client.get(path, headers=known).status_code)
+            self.replace("original", other_record(HOME + "old", DATE, self.records["original"], page("new" * 99)))
+            again = self.client.get(path, headers=known)
+            self.assertEqual((200, True), (again.status_code, b"newnew" in again.data), path)
+            part = {"Range": "bytes=5-", "If-Range": first.headers["ETag"]}
+            self.assertEqual((200, again.data), ((found := self.client.get(path, headers=part)).status_code, found.data))
+            self.replace("original", self.records["original"])
+
     def test_a_window_shows_no_other_page(self) -> None:
         for other in self.others("page"):
             self.replace("page", other)
             answer = self.client.get(f"/web/{STAMP}/{HOME}", headers={"Sec-Fetch-Dest": "document"})
             self.assertEqual((502, True), (answer.status_code, answer.text.startswith(MISFIT)))
+
+    def test_a_rule_is_for_the_digest_of_the_record_too(self) -> None:
+        """The line of another program may have none, or another one than the record."""
+        collection = self.gateway.collections["crawl"]
+        for name in ("page", "image", "original"):
+            (digest,) = re.findall(rb"WARC-Payload-Digest: ([^\r]*)", self.records[name])
+            for action, status in ((1, 451), (0, 200)):
+                collection.rules = Rules([Rule(action, digest=plain_digest(digest.decode()))])
+                for path in PLACES:
+                    self.assertEqual(status, self.ask(path, **self.place_of(name)).status_code, (name, path))
+                # No path of Memento has a line with this digest.
+                raw = 404 if (name, status) == ("original", 451) else status
+                self.assertEqual(raw, self.client.get(self.raw(name)).status_code, name)
+                is_filled = b"data:image/png" in self.ask("payload", **self.place_of("page")).data
+                self.assertEqual(status == 200 or name == "original", is_filled)
 
     def test_an_image_that_does_not_fit_is_not_put_into_a_page(self) -> None:
         self.assertIn(b"data:image/png", self.ask("payload", **self.place_of("page")).data)

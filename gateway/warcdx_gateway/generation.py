@@ -23,6 +23,10 @@ class Identity(NamedTuple):
     modified: int
     changed: int
 
+    @classmethod
+    def of(cls, found: os.stat_result) -> "Identity":
+        return cls(found.st_dev, found.st_ino, found.st_size, found.st_mtime_ns, found.st_ctime_ns)
+
     def has_content_of(self, other: "Identity") -> bool:
         """Returns whether it is the same file, to which nothing was written as its size and time say.
 
@@ -84,4 +88,4 @@ def names_of(process: int, files: Sequence[int]) -> list[str]:
 
 
 def stamp_of(found: Iterable[os.stat_result]) -> Stamp:
-    return tuple(Identity(each.st_dev, each.st_ino, each.st_size, each.st_mtime_ns, each.st_ctime_ns) for each in found)
+    return tuple(map(Identity.of, found))

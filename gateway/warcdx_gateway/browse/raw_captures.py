@@ -64,7 +64,8 @@ class RawCapture:
         self._request = request
         self._collection = collection
         self._ask = ask
-        self._read = [capture]  # and the originals, as they are read
+        self._capture = capture
+        self._states: list[str] = []  # of what is read: the capture, and its original
         self._stack = stack
 
     def response(self, fields: dict[str, str], location_of: Callable[[str], str]) -> Response:
@@ -78,7 +79,7 @@ class RawCapture:
             return Response(f"{error}\n", error.status)
 
     def _response(self, fields: dict[str, str], location_of: Callable[[str], str]) -> Response:
-        record = self._stack.enter_context(reading.opened(self._collection, self._read[0]))
+        record = self._opened(self._capture)
         record, head = self._with_payload(record)
         window, read = self._window, reading.Read(record.head, head, record.length, reading.UNREAD)
         status = 200 if head is None else sent_status(head.status or 200)
@@ -102,8 +103,12 @@ class RawCapture:
             response.headers.add(ARCHIVED + "Status-Line", visible(head.line)[:MOST_LINE])
         for name, value in archived_fields(head.fields if head else ()):
             response.headers.add(ARCHIVED + name, value)
-        response.set_etag(tag_of(what, *self._read))
+        response.set_etag(tag_of(what, *self._states))
         return conditional(response, self._request, size if held is None else len(held))
+
+    def _opened(self, capture: Capture) -> RecordStream:
+        self._states.append(reading.state_of(self._collection, capture))
+        return self._stack.enter_context(reading.opened(self._collection, capture))
 
     def _shown(self, window: Window, record: RecordStream, read: reading.Read, fields: dict[str, str], status: int) -> Response:
         """Returns a page with its images and style sheets."""
@@ -134,8 +139,7 @@ class RawCapture:
         for _ in range(MOST_BEFORE):
             if original is None:
                 break
-            self._read.append(original)
-            record = self._stack.enter_context(reading.opened(self._collection, original))
+            record = self._opened(original)
             if record.http is None or record.http.status != NOT_MODIFIED:
                 return record, record.http if is_whole else head
             # Its index line doesn't say so, as where the head isn't quite one.
@@ -161,9 +165,9 @@ def sent_status(status: int) -> int:
     return status
 
 
-def tag_of(what: str, *captures: Capture) -> str:
-    """Returns the tag of the payload that was read of captures, with its codings or without them."""
-    return hashlib.sha256(f"{what} {captures!r}".encode(errors="replace")).hexdigest()[:20]
+def tag_of(what: str, *states: str) -> str:
+    """Returns the tag of a payload that was read of captures in these states, with its codings or without them."""
+    return hashlib.sha256(f"{what} {states!r}".encode(errors="replace")).hexdigest()[:20]
 
 
 def conditional(response: Response, request: Request, size: Optional[int]) -> Response:

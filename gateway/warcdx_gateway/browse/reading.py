@@ -14,6 +14,7 @@ from warcdx.record import Head, RecordStream
 from warcdx.record_digests import BlockCheck, Verdicts
 
 from ..collection import Collection
+from ..generation import Identity
 from ..rules import Action
 from ..work import Work
 from .fitting import expect_fitting
@@ -106,10 +107,8 @@ class Read:
 @contextlib.contextmanager
 def opened(collection: Collection, capture: Capture) -> Iterator[RecordStream]:
     """Opens the record of a capture, by its offset and length. Raises NotShown, also if it is another's."""
-    settings, work = collection.settings, collection.work
-    path = find_archive(settings.archives, capture.filename, settings.links)
-    if collection.rules.action(capture.urlkey, capture.timestamp, capture.digest) > Action.SHOW:
-        raise NotShown("This capture can't be shown.", "The archive doesn't give it to readers.", 451)
+    work, path = collection.work, archive_of(collection, capture)
+    _expect_allowed(collection, capture, capture.digest)
     if path is None or not os.path.isfile(path):
         raise NotShown(
             f"The archive “{capture.filename}” isn't here.",
@@ -120,12 +119,35 @@ def opened(collection: Collection, capture: Capture) -> Iterator[RecordStream]:
         archive, seconds = open_archive(path, program=collection.program), work.seconds(SILENCE)
         with archive.stream(capture.offset, length=capture.length, seconds=seconds) as record:
             expect_fitting(collection.program, record.head, capture)
+            _expect_allowed(collection, capture, record.head.field("WARC-Payload-Digest") or "")
             yield record
     except faults.NoRecord:
         raise NotShown("There is no record here.", "No record of the archive begins at this offset and has this length.", 404) from None
     except (Fault, ReplyTooLate, Unreadable) as error:
         work.go_on()
         raise NotShown("The record can't be read.", reason_of(error), 502) from error
+
+
+def _expect_allowed(collection: Collection, capture: Capture, digest: str) -> None:
+    """Raises NotShown if the rules are for a capture, with the digest that its line or its record has."""
+    if collection.rules.action(capture.urlkey, capture.timestamp, digest) > Action.SHOW:
+        raise NotShown("This capture can't be shown.", "The archive doesn't give it to readers.", 451)
+
+
+def archive_of(collection: Collection, capture: Capture) -> Optional[str]:
+    return find_archive(collection.settings.archives, capture.filename, collection.settings.links)
+
+
+def state_of(collection: Collection, capture: Capture) -> str:
+    """Returns a text that changes with the index line of a capture, and with the file that is its archive.
+
+    Before the record is opened it is at most too old. So no tag that is made of it is one of what an archive will hold.
+    """
+    path = archive_of(collection, capture)
+    try:
+        return f"{capture!r} {path and Identity.of(os.stat(path))}"
+    except OSError:
+        return repr(capture)
 
 
 def reason_of(error: Error) -> str:

@@ -156,12 +156,13 @@ def download(gateway: Gateway, collection: Collection, request: Request) -> Resp
     if what not in ("record", "payload"):
         raise NotShown("The download was refused.", "A record or its payload can be saved.")
     capture = place.capture(gateway, collection)
+    state = reading.state_of(collection, capture)
     with contextlib.ExitStack() as stack:
         record = stack.enter_context(reading.opened(collection, capture))
         opened = Download(stack, record, what, gateway.work)
     headers = responses.attachment_headers(_file_name(opened, place, what))
     response = Response(opened, 200, headers, content_type="application/octet-stream")
-    response.set_etag(tag_of(what, capture))
+    response.set_etag(tag_of(what, state))
     return conditional(response, request, opened.size)
 
 
