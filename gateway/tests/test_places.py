@@ -234,6 +234,25 @@ class Pages(Case):
             self.assertEqual([shown[:45], shown[45:90], shown[90:]] if shown else [], self.keys(client, "url=example.com/*"))
 
 
+class Long(Case):
+    def test_the_last_captures_of_a_long_run_are_found_without_reading_it_again_and_again(self) -> None:
+        """A collapse makes one of all lines, so all are read: once in parts, from the end, and then as a whole."""
+        lines = [line("com,example)/", 20160101000000 + number) for number in range(2000)]
+        client, size = self.client("".join(lines)), len("".join(lines))
+        for rest in ("collapse=urlkey", "collapse=digest", "collapse=digest&collapse=statuscode", "collapse=digest&showGroupCount=true",
+                     "collapse=urlkey&is=statuscode:404", "collapse=digest&filter=statuscode:4.."):  # fmt: skip
+            copied, whole = list[int](), self.ask(client, f"url=example.com&fl=timestamp&{rest}")
+
+            def copy(lines: Lines, to: int, start: int, end: int) -> None:
+                copied.append(end - start)
+                plain_copy(lines, to, start, end)
+
+            plain_copy = Lines.copy
+            with mock.patch.object(Lines, "copy", copy):
+                self.assertEqual(whole, self.ask(client, f"url=example.com&fl=timestamp&{rest}&limit=-5"), rest)
+            self.assertLess(sum(copied), 2 * size, rest)
+
+
 class Random(Case):
     def setUp(self) -> None:
         super().setUp()

@@ -57,7 +57,7 @@ class Answers:
             yield from ordered(plan, selection, chosen(plan, selection.timestamps(), held))
 
     def _last(self, plan: Plan, source: Source) -> Iterator[bytes]:
-        """Yields the last captures. As many lines are read from the end of the index on as have them."""
+        """Yields the last captures. As many lines are read from the end of the index on as have them for sure."""
         held = self._limits.held
         wanted = plan.limit or held + 1
         found = range_of(plan.target, source) if plan.resume_key is None else None
@@ -65,7 +65,7 @@ class Answers:
         for stretch in backwards(found, size) if found is not None else ():
             if stretch.is_whole:
                 break
-            selection = Selection(plan, source, self._limits, None, stretch)
+            selection = Selection(plan, source, self._limits, None, stretch, is_apart=True)
             count = sum(map(len, selection.timestamps()))
             if count >= wanted:
                 yield from ordered(plan, selection, last_numbers(plan, count, held))

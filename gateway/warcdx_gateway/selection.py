@@ -57,14 +57,26 @@ class Selection:
     """The captures of a plan, after originals of revisits, conditions and collapses.
 
     They are those after a resume key, or those of a stretch of the index. Either way each is one that the
-    whole answer has: a collapse compares the first one with what is before it.
+    whole answer has: a collapse compares the first one with what is before it. If the selection `is_apart`,
+    nothing before the stretch is read. Captures that could go with one there are left out then.
     """
 
-    def __init__(self, plan: Plan, source: Source, limits: Limits, key: Optional[str] = None, stretch: Optional[Stretch] = None) -> None:
+    def __init__(
+        self,
+        plan: Plan,
+        source: Source,
+        limits: Limits,
+        key: Optional[str] = None,
+        stretch: Optional[Stretch] = None,
+        is_apart: bool = False,
+    ) -> None:
         self._plan = plan
         self._source = source
         self._key = key
         self._stretch = stretch
+        self._is_apart = is_apart
+        # Without the line before it, the program gives the first line of a stretch.
+        self._left_out = 1 if is_apart and plan.program_collapse else 0
         self._conditions = Conditions(plan.conditions, limits.pattern, source.work)
         self._before = self._capture_at(key) if key and plan.collapses else None
         self._has_steps = bool(plan.conditions or plan.collapses or source.rules)
@@ -85,14 +97,14 @@ class Selection:
         if self._has_steps:
             yield from ([row[STAMP] for row in rows] for rows in self.rows())
             return
-        for source, key in self.sources():
-            yield from source.timestamps(with_key(self._plan.selected, key))
+        groups = (stamps for source, key in self.sources() for stamps in source.timestamps(with_key(self._plan.selected, key)))
+        yield from sliced(groups, self._left_out)
 
     def between(self, first: int, end: int) -> Iterator[list[Row]]:
         """Yields the captures from a number to before another one, and parses no others if it can."""
         if self._has_steps:
             return sliced(self.rows(), first, end)
-        return self._parsed(sliced(self._lines(self.sources()), first, end))
+        return self._parsed(sliced(self._lines(self.sources()), first + self._left_out, end + self._left_out))
 
     def sources(self) -> Iterator[tuple[Source, Optional[str]]]:
         """Yields the sources of the captures, one after another, each with a resume key or None."""
@@ -122,7 +134,7 @@ class Selection:
 
     def _passed(self, sources: Iterable[tuple[Source, Optional[str]]]) -> Iterator[list[Row]]:
         """Yields the captures for which the conditions hold."""
-        return map(self._conditions.select, self._parsed(self._lines(sources)))
+        return map(self._conditions.select, self._parsed(sliced(self._lines(sources), self._left_out)))
 
     def _rest(self, collapser: Collapser) -> list[Row]:
         """Returns the last capture of a stretch, with the counts of what it has made one after the stretch."""
@@ -145,6 +157,8 @@ class Selection:
         collapses = self._plan.collapses
         if self._before is not None:
             return [self._before[PLACES[each.field]][: each.count] for each in collapses]
+        if self._is_apart:
+            return [UNKNOWN_PART] * len(collapses)
         if self._stretch is not None and collapses:
             for stretch in backwards(self._before_it(self._stretch.starts)):
                 is_whole = stretch.starts == stretch.whole.starts
@@ -169,7 +183,7 @@ class Selection:
 
     def _before_it(self, position: Positions) -> Range:
         assert self._stretch is not None
-        return self._stretch.whole.between(self._stretch.whole.starts, position)
+        return self._stretch.whole.between(self._stretch.starts if self._is_apart else self._stretch.whole.starts, position)
 
     def _capture_at(self, key: str) -> Optional[Row]:
         """Returns the capture at the place of a resume key."""
