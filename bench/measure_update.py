@@ -170,7 +170,7 @@ def main() -> int:
         archives.mkdir()
         for number in range(SMALL):
             put_archive(folder / "one.warc", number, 1, 2000)
-            (archives / f"{number:03}.warc.gz").write_bytes(gzip.compress((folder / "one.warc").read_bytes()))
+            (archives / f"{number:03}.warc.gz").write_bytes(gzip.compress((folder / "one.warc").read_bytes(), mtime=0))
         compared = least(lambda: cost_of((packed, "index", *archives.iterdir())))
         nothing = least(lambda: cost_of((COMMAND, "--version")))
         times["warcdx-gz index of 150 small archives"], times["the start of Python"] = compared.processor, nothing.processor

@@ -6,13 +6,15 @@ usage: check_scripts.py [KIND]..
 A KIND is one of these; without one all three are checked:
 
 shell   `shellcheck` finds nothing in the shell scripts. Needs Debian's package shellcheck
-python  the Python scripts compile without warnings
+python  the Python scripts compile without warnings, and say which time a member of gzip has, since a test whose bytes have
+        the time of its run may fail by chance
 usage   each script that can be run prints its usage for -h with exit status 0, and ends with 2 after an unknown option, or with 77 if a
         package that it needs is missing
 
 The scripts are the files that git lists outside of crates/. Prints a line for each script, and the
 counts. The exit status is 0, or 1 if a script fails. Needs git.
 """
+import ast
 import os
 import pathlib
 import py_compile
@@ -62,6 +64,11 @@ def fault_of_python(path: pathlib.Path) -> Optional[str]:
             py_compile.compile(str(path), cfile=os.path.join(folder, "compiled"), doraise=True)
         except (py_compile.PyCompileError, Warning) as fault:
             return str(fault)
+    tree = ast.parse(path.read_bytes())
+    timed = {call.func for call in ast.walk(tree) if isinstance(call, ast.Call) and any(each.arg == "mtime" for each in call.keywords)}
+    for node in ast.walk(tree):
+        if isinstance(node, ast.Attribute) and ast.unparse(node).endswith("gzip.compress") and node not in timed:
+            return f"line {node.lineno}: gzip.compress has no mtime"
     return None
 
 

@@ -163,8 +163,8 @@ class Records(support.Pages):
         html = f"<meta http-equiv=refresh content='0;url=http://evil.example/'>{SCRIPT}".encode()
         svg = b"<svg xmlns='http://www.w3.org/2000/svg'><script>1</script></svg>"
         quotes = 'text/html"; charset="x\r\nX-Injected: 1'
-        cut = gzip.compress(html)[:-4]
-        nothing = gzip.compress(gzip.compress(gzip.compress(b"") * 4_000_000))  # in members
+        cut = gzip.compress(html, mtime=0)[:-4]
+        nothing = gzip.compress(gzip.compress(gzip.compress(b"", mtime=0) * 4_000_000, mtime=0), mtime=0)  # in members
         controls = ["X\0-Name\x1b: a\rb\x7f", "\udcff: \udcfe", "No colon", MARKUP]
         pointers = [f"WARC-Payload-Digest: sha1:{MARKUP}&key=x", f"WARC-Refers-To-Target-URI: {MARKUP}", f"WARC-Refers-To-Date: {MARKUP}"]
         http = "application/http; msgtype=response"

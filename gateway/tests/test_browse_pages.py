@@ -47,7 +47,7 @@ class Reading(support.Pages):
             )
         )
         archives.add("a.warc", records)
-        packed = response("http://packed.example/", "2019-01-01T00:00:00Z", gzip.compress(FIRST), http=["Content-Encoding: gzip"])
+        packed = response("http://packed.example/", "2019-01-01T00:00:00Z", gzip.compress(FIRST, mtime=0), http=["Content-Encoding: gzip"])
         archives.add("b.warc.gz", [packed])
 
     def test_the_list_of_collections_links_each(self) -> None:

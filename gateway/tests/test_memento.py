@@ -290,7 +290,7 @@ class Raw(support.Pages):
             response("http://example.com/odd", DATE, b"odd", status="999 Odd"),
             response("http://example.com/empty", DATE, b"", status="304 Not Modified"),
             response("http://example.com/large", DATE, b"x" * 3_000_000, "text/plain"),
-            response("http://example.com/window", DATE, gzip.compress(WINDOW.encode("windows-1252")), "text/html",
+            response("http://example.com/window", DATE, gzip.compress(WINDOW.encode("windows-1252"), mtime=0), "text/html",
                      status="410 Gone", http=["Content-Encoding: gzip"]),
             response("http://example.com/window.svg", DATE, b"<svg/>", "image/svg+xml"),
             response("http://example.com/window.png", DATE, b"x", "image/png"),

@@ -120,7 +120,7 @@ def random_response(chance: random.Random, url: str, moment: datetime.datetime, 
         found.fields.append(("Content-Encoding", names[0]))
         if chance.random() < 0.7:  # else the crawler has undone it
             found.coding = names[0]
-            body = zlib.compress(body) if names[0] == "deflate" else gzip.compress(body)
+            body = zlib.compress(body) if names[0] == "deflate" else gzip.compress(body, mtime=0)
     if chance.random() < 0.4 and payload:
         found.fields.append(("Transfer-Encoding", "chunked"))
         if chance.random() < 0.7:

@@ -169,16 +169,16 @@ class Records(Case):
         deflater = zlib.compressobj(wbits=-15)
         alone = deflater.compress(body) + deflater.flush()
         chunked = b"10;x=y\r\n" + body[:16] + b"\r\n" + b"%x\r\n" % (len(body) - 16) + body[16:] + b"\r\n0\r\n\r\n"
-        packed = gzip.compress(body)
+        packed = gzip.compress(body, mtime=0)
         for fields, stored in (
             (b"", body),
             (b"Transfer-Encoding: chunked\r\n", chunked),
             (b"Content-Encoding: gzip\r\n", packed),
-            (b"content-encoding:X-GZIP\r\n", gzip.compress(body[:99]) + gzip.compress(body[99:])),
+            (b"content-encoding:X-GZIP\r\n", gzip.compress(body[:99], mtime=0) + gzip.compress(body[99:], mtime=0)),
             (b"Content-Encoding: deflate\r\n", zlib.compress(body)),
             (b"Content-Encoding: deflate\r\n", alone),
             (b"Content-Encoding: identity\r\n", body),
-            (b"Content-Encoding: deflate, gzip\r\n", gzip.compress(alone)),
+            (b"Content-Encoding: deflate, gzip\r\n", gzip.compress(alone, mtime=0)),
             (b"Transfer-Encoding: chunked\r\nContent-Encoding: gzip\r\n", b"%x\r\n%s\r\n0\r\n\r\n" % (len(packed), packed)),
         ):
             self.assertEqual(hashlib.sha1(body).digest(), hashlib.sha1(payload(response(fields, stored))).digest(), fields)
@@ -188,7 +188,7 @@ class Records(Case):
             b"",
             b"WARC/1.0\r\n\r\n",
             response(b"Transfer-Encoding: chunked\r\n", b"5\r\nabc"),
-            response(b"Content-Encoding: gzip\r\n", gzip.compress(b"body")[:-1]),
+            response(b"Content-Encoding: gzip\r\n", gzip.compress(b"body", mtime=0)[:-1]),
             HEAD + b"HTTP/1.1 200 OK\r\nA: b\r\n\r\n",
         ):
             self.raises(Unreadable, payload, record)

@@ -139,17 +139,17 @@ SHAPES += [
     Shape(GZIP, b"", b""),
     Shape(GZIP, ABC_GZIP, b"abc"),
     Shape("Content-Encoding: X-Gzip", ABC_GZIP, b"abc"),
-    Shape(GZIP, ABC_GZIP + gzip.compress(b"") + ABC_GZIP, b"abcabc"),
+    Shape(GZIP, ABC_GZIP + gzip.compress(b"", mtime=0) + ABC_GZIP, b"abcabc"),
     Shape(GZIP, ABC_GZIP + bytes(20), b"abc"),
     Shape(GZIP, ABC_GZIP + b"\r\n<!-- more -->", b"abc"),
     Shape(GZIP, ABC_GZIP * 2 + b"x" + ABC_GZIP, b"abcabc"),
-    Shape(GZIP, gzip.compress(b""), b""),
+    Shape(GZIP, gzip.compress(b"", mtime=0), b""),
     Shape(GZIP, b"\x1f", b"\x1f", ("gzip",)),
     Shape(GZIP, b"\x1fx", b"\x1fx", ("gzip",)),
-    Shape(GZIP, gzip.compress(PACKED), PACKED),
-    Shape("Content-Encoding: gzip, gzip", gzip.compress(PACKED), TEXT),
+    Shape(GZIP, gzip.compress(PACKED, mtime=0), PACKED),
+    Shape("Content-Encoding: gzip, gzip", gzip.compress(PACKED, mtime=0), TEXT),
     Shape(f"{GZIP}\n{GZIP}", PACKED, TEXT, ("gzip",)),
-    Shape("Content-Encoding: deflate, gzip", gzip.compress(ZLIB), TEXT),
+    Shape("Content-Encoding: deflate, gzip", gzip.compress(ZLIB, mtime=0), TEXT),
     Shape("Content-Encoding: gzip, deflate", deflated(PACKED), TEXT),
     Shape(GZIP, ABC_ZLIB, ABC_ZLIB, ("gzip",)),
     Shape(GZIP, PACKED[:-1], None),
@@ -300,7 +300,7 @@ class Bodies(unittest.TestCase):
 
 class Bounds(unittest.TestCase):
     def test_size_and_time_are_those_of_all_codings(self) -> None:
-        named = {"chunked": chunks(bytes(1000)), "gzip": gzip.compress(bytes(1000)), "deflate": deflated(bytes(1000))}
+        named = {"chunked": chunks(bytes(1000)), "gzip": gzip.compress(bytes(1000), mtime=0), "deflate": deflated(bytes(1000))}
         for name, stored in named.items():
             taken = len(stored) + 1000
             self.assertEqual(bytes(1000), b"".join(decoded(Decoder([name], Limits(size=taken)), [stored])))
@@ -323,7 +323,7 @@ class Bounds(unittest.TestCase):
         self.assertLess(tracemalloc.get_traced_memory()[1], 64 << 20)
 
     def test_a_body_of_any_length_takes_bounded_memory(self) -> None:
-        member = gzip.compress(bytes(8 << 20))
+        member = gzip.compress(bytes(8 << 20), mtime=0)
         head = Shape(BOTH, b"", None).block
         chunk = b"%x\r\n%b\r\n" % (len(member), member)
         tracemalloc.start()
@@ -334,7 +334,7 @@ class Bounds(unittest.TestCase):
 
     def test_pieces_are_short(self) -> None:
         cases: tuple[tuple[list[str], bytes], ...] = (
-            ([], bytes(1 << 20)), (["chunked"], chunks(bytes(1 << 20), 1 << 19)), (["gzip"], gzip.compress(bytes(1 << 20))),
+            ([], bytes(1 << 20)), (["chunked"], chunks(bytes(1 << 20), 1 << 19)), (["gzip"], gzip.compress(bytes(1 << 20), mtime=0)),
         )  # fmt: skip
         for names, stored in cases:
             sizes = [len(piece) for piece in decoded(Decoder(names), [stored])]

@@ -33,7 +33,7 @@ class Collections(Case):
         plain, packed = self.folder / "plain", self.folder / "packed"
         text = SAMPLE.read_bytes()
         records = [text[each.offset : each.offset + each.length] for each in Archive(SAMPLE, program=PROGRAM).list()]
-        for folder, archive in ((plain, text), (packed, b"".join(map(gzip.compress, records)))):
+        for folder, archive in ((plain, text), (packed, b"".join(gzip.compress(each, mtime=0) for each in records))):
             folder.mkdir()
             (folder / "wget.warc").write_bytes(archive)
         found = []
@@ -96,7 +96,7 @@ class Collections(Case):
         self.assertEqual((str(self.folder / "a.warc"), first), (found.file, found.offset))
 
     def test_what_is_no_member_of_the_capture_is_refused(self) -> None:
-        members = [gzip.compress(resource(text)) for text in (b"abc", b"defghi")]
+        members = [gzip.compress(resource(text), mtime=0) for text in (b"abc", b"defghi")]
         (self.folder / "a.warc").write_bytes(b"".join(members))
         first, second = map(len, members)
         for offset, length in ((first, second), (first, "-")):
@@ -156,7 +156,7 @@ class Collections(Case):
         self.assertEqual(("another", 5), (caught.exception.file, caught.exception.offset))
 
     def test_archives_of_both_forms_are_opened(self) -> None:
-        for name, text, kind in (("a", resource(b""), Archive), ("b", gzip.compress(resource(b"")), CompressedArchive)):
+        for name, text, kind in (("a", resource(b""), Archive), ("b", gzip.compress(resource(b""), mtime=0), CompressedArchive)):
             (self.folder / name).write_bytes(text)
             self.assertIs(kind, type(open_archive(self.folder / name, program=PROGRAM)))
             record = open_archive(self.folder / name, program=PROGRAM).get(0)

@@ -69,7 +69,7 @@ class Heads(Case):
                     self.assertEqual((places, sorted(offsets), ""), (found := self.listed(*members))[:1] + (sorted(found[1]), found[2]))
 
     def test_a_head_over_the_limit_is_that_of_the_program(self) -> None:
-        long = gzip.compress(record(HEAD_LIMIT + 1, 3 << 20), 1)
+        long = gzip.compress(record(HEAD_LIMIT + 1, 3 << 20), 1, mtime=0)
         first, last = packed(resource(1), resource(2))
         self.assertEqual(([(0, len(first))], [0], f"HeadTooLong {len(first)}"), self.listed(first, long, last))
 

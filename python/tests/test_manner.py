@@ -116,7 +116,7 @@ class Messages(Runs):
     def test_a_file_of_another_kind(self) -> None:
         for name, text in (
             ("a.wacz", b"PK\x03\x04" + bytes(100)), ("a.html", b"<!doctype html><p>x"), ("a.warc", (SAMPLES / "response.warc").read_bytes()),
-            ("a.cdx.gz", gzip.compress(b"x")), ("a.warc.gz", gzip.compress((SAMPLES / "wget.warc").read_bytes())),
+            ("a.cdx.gz", gzip.compress(b"x", mtime=0)), ("a.warc.gz", gzip.compress((SAMPLES / "wget.warc").read_bytes(), mtime=0)),
         ):  # fmt: skip
             (self.folder / name).write_bytes(text)
         index = self.put(lines(1), "a.cdxj")

@@ -82,7 +82,7 @@ class Programs(Case):
         index = self.put(lines(20_000))
         plain, packed = self.folder / "a.warc", self.folder / "a.warc.gz"
         plain.write_bytes(resource(1) * 20_000)
-        packed.write_bytes(gzip.compress(resource(1)) * 20_000)
+        packed.write_bytes(gzip.compress(resource(1), mtime=0) * 20_000)
         opened = f"index = warcdx.Index({str(index)!r}, program={PROGRAM!r})\n"
         for text in (
             f"{opened}index.count({ALL!r})",

@@ -43,7 +43,7 @@ class Streams(Case):
     def archives(self, *records: bytes) -> list[tuple[Archive, list[int]]]:
         """Returns an archive of these records, plain and compressed, each with the records' offsets."""
         plain, packed = self.folder / "a.warc", self.folder / "a.warc.gz"
-        members = [gzip.compress(each) for each in records]
+        members = [gzip.compress(each, mtime=0) for each in records]
         plain.write_bytes(b"".join(records))
         packed.write_bytes(b"".join(members))
         found: list[tuple[Archive, list[int]]] = []
@@ -91,7 +91,7 @@ class Streams(Case):
             self.raises(faults.ShortBlock, archive.verdict, offsets[1])
 
     def test_a_damaged_member_is_raised(self) -> None:
-        packed = gzip.compress(record(bytes(range(256)) * 4000))
+        packed = gzip.compress(record(bytes(range(256)) * 4000), mtime=0)
         path = self.folder / "cut.warc.gz"
         path.write_bytes(packed[:-100])
         with self.assertRaises(faults.CutMember):
@@ -139,7 +139,7 @@ class Streams(Case):
 class Codings(unittest.TestCase):
     def test_pieces_of_any_size_give_the_same_body(self) -> None:
         body = bytes(range(256)) * 40
-        packed = gzip.compress(body[:5000]) + gzip.compress(body[5000:])
+        packed = gzip.compress(body[:5000], mtime=0) + gzip.compress(body[5000:], mtime=0)
         chunked = b"".join(b"%x\r\n%s\r\n" % (len(part), part) for part in pieces(packed, 37)) + b"0\r\n\r\n"
         named = head("Transfer-Encoding: chunked", "Content-Encoding: gzip")
         for size in (1, 2, 3, 7, 64, 1000, len(chunked)):
@@ -171,20 +171,20 @@ class Codings(unittest.TestCase):
                 taken += len(piece)
         self.assertLessEqual(taken, 10 * MEGABYTE)
         # What is packed twice is bounded too, although nothing comes out at its end.
-        twice = gzip.compress(packed)
+        twice = gzip.compress(packed, mtime=0)
         named = head("Content-Encoding: deflate, gzip, gzip")
         with self.assertRaises(Unreadable):
             sum(map(len, decoded(named, iter([twice]), Limits(size=10 * MEGABYTE))))
 
     def test_a_body_that_takes_long_is_given_up(self) -> None:
-        members = gzip.compress(b"") * 100_000
+        members = gzip.compress(b"", mtime=0) * 100_000
         with self.assertRaises(Unreadable):
             list(decoded(head("Content-Encoding: gzip"), itertools.repeat(members), Limits(seconds=0.2)))
 
     def test_bodies_have_a_few_codings_at_most(self) -> None:
         body = b"body"
         for _ in range(8):
-            body = gzip.compress(body)
+            body = gzip.compress(body, mtime=0)
         self.assertEqual(b"body", b"".join(decoded(head("Content-Encoding: " + ", ".join(["gzip"] * 8)), iter([body]))))
         with self.assertRaisesRegex(Unreadable, "more than 8 codings"):
             decoded(head("Content-Encoding: " + ", ".join(["gzip"] * 9)), iter([body]))

@@ -115,16 +115,16 @@ class Archives(Case):
         path = self.folder / "a.warc.gz"
         for end, kind in (
             (member[:-1], faults.CutMember), (member[:-5] + b"x" + member[-4:], faults.BadMember), (b"\0" * 9, faults.NoMember),
-            (b"\x1f", faults.CutMember), (gzip.compress(RECORD * 2), faults.SeveralRecords), (gzip.compress(b"x"), faults.Version),
+            (b"\x1f", faults.CutMember), (gzip.compress(RECORD * 2, mtime=0), faults.SeveralRecords), (gzip.compress(b"x", mtime=0), faults.Version),
         ):  # fmt: skip
-            path.write_bytes(member + gzip.compress(b"") + member + end)
+            path.write_bytes(member + gzip.compress(b"", mtime=0) + member + end)
             records = iter(open_archive(path, program=PROGRAM))
             self.assertEqual([Record.read(RECORD)] * 2, [next(records), next(records)])
             self.raises(kind, next, records)
 
     def test_members_without_a_text_are_passed_over(self) -> None:
         (member,) = packed(RECORD)
-        empty = gzip.compress(b"")
+        empty = gzip.compress(b"", mtime=0)
         path = self.folder / "a.warc.gz"
         path.write_bytes(empty + member + empty * 2 + member + empty)
         archive = open_archive(path, program=PROGRAM)
@@ -136,7 +136,7 @@ class Archives(Case):
     def test_the_file_decides_what_a_place_in_it_holds(self) -> None:
         """A member in a plain archive is no record, and neither is a record in a compressed one."""
         (member,) = packed(RECORD)
-        stored = gzip.compress(resource(1, b"x" + RECORD), 0)
+        stored = gzip.compress(resource(1, b"x" + RECORD), 0, mtime=0)
         for archive, offset, length in (
             (self.archives(RECORD)[0], len(RECORD), len(member)), (self.archives(RECORD)[1], stored.index(RECORD), len(RECORD))
         ):  # fmt: skip

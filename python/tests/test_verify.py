@@ -116,7 +116,7 @@ class Records(unittest.TestCase):
         for field in (b"\r\n chunked", b" identity, chunked", b" chunked\r\nTransfer-Encoding: chunked", b"chunked;a=b"):
             named = HTTP[:-2] + b"Transfer-Encoding :" + field + b"\r\n\r\n"
             self.assertEqual("absent same", verdicts(http(named + body, None, OF_ABC[3])), field)
-        packed = gzip.compress(b"abc")
+        packed = gzip.compress(b"abc", mtime=0)
         named = CHUNKED.replace(b"Chunked", b"gzip, chunked")
         for payload in (sha1_of(b"%x\r\n%b\r\n0\r\n\r\n" % (len(packed), packed)), OF_ABC[3]):
             self.assertEqual("absent same", verdicts(http(named + b"%x\r\n%b\r\n0\r\n\r\n" % (len(packed), packed), None, payload)))
@@ -188,7 +188,7 @@ class Command(Case):
         texts = [record(b"abc", OF_ABC[5]), http(HTTP + b"abc", None, OF_ABC[7]), record(b"abc")]
         wanted = "0 same absent\n%d absent same\n%d absent absent\n" % (len(texts[0]), len(texts[0] + texts[1]))
         self.assertEqual((wanted, "", 0), self.run_command(self.put_bytes(b"".join(texts))))
-        members = [gzip.compress(text) for text in texts]
+        members = [gzip.compress(text, mtime=0) for text in texts]
         wanted = "0 same absent\n%d absent same\n%d absent absent\n" % (len(members[0]), len(members[0] + members[1]))
         self.assertEqual((wanted, "", 0), self.run_command(self.put_bytes(b"".join(members))))
 
@@ -201,7 +201,7 @@ class Command(Case):
     def test_a_digest_that_differs(self) -> None:
         wanted = "0 differs absent\n", "", 1
         self.assertEqual(wanted, self.run_command(self.put_bytes(record(b"abd", OF_ABC[5]))))
-        self.assertEqual(wanted, self.run_command(self.put_bytes(gzip.compress(record(b"abd", OF_ABC[5])))))
+        self.assertEqual(wanted, self.run_command(self.put_bytes(gzip.compress(record(b"abd", OF_ABC[5]), mtime=0))))
 
     def test_damage_is_on_the_last_line(self) -> None:
         good = record(b"abc", OF_ABC[5])
@@ -210,10 +210,10 @@ class Command(Case):
         ):  # fmt: skip
             wanted = f"0 same absent\nfault {len(good)} {cause}\n"
             self.assertEqual((wanted, "", 1), self.run_command(self.put_bytes(good + rest)))
-        member = gzip.compress(good)
+        member = gzip.compress(good, mtime=0)
         for rest, cause in (
             (member[:-1], "CutMember"), (member[:-5] + b"x" + member[-4:], "BadMember"), (b"x", "NoMember"),
-            (gzip.compress(good + good), "SeveralRecords"), (gzip.compress(good[:-6]), "ShortBlock"),
+            (gzip.compress(good + good, mtime=0), "SeveralRecords"), (gzip.compress(good[:-6], mtime=0), "ShortBlock"),
         ):  # fmt: skip
             wanted = f"0 same absent\nfault {len(member)} {cause}\n"
             self.assertEqual((wanted, "", 1), self.run_command(self.put_bytes(member + rest)), cause)
@@ -272,7 +272,7 @@ class Command(Case):
     def test_small_records_of_a_member_each_need_no_turns(self) -> None:
         # The program lists more of them than a pipe holds, before the second reader has them.
         text = b"WARC/1.0\r\nWARC-Type:x\r\nWARC-Record-ID:\r\nWARC-Date:2016\r\nContent-Length:0\r\n\r\n\r\n\r\n"
-        name = self.put_bytes(gzip.compress(text) * 20_000 + gzip.compress(record(b"abc", OF_ABC[0])))
+        name = self.put_bytes(gzip.compress(text, mtime=0) * 20_000 + gzip.compress(record(b"abc", OF_ABC[0]), mtime=0))
         found, said, status = self.run_command(name, timeout=WAIT)
         self.assertEqual((20_001, "", 0), (len(found.splitlines()), said, status))
 
@@ -308,7 +308,7 @@ class Command(Case):
         self.assertEqual({"same same", "same absent"}, {line.partition(" ")[2] for line in plain.splitlines()})
         text = (SAMPLES / "wget.warc").read_bytes()
         listed = Archive(SAMPLES / "wget.warc", program=PROGRAM).list()
-        packed = b"".join(gzip.compress(text[each.offset : each.offset + each.length]) for each in listed)
+        packed = b"".join(gzip.compress(text[each.offset : each.offset + each.length], mtime=0) for each in listed)
         found, said, status = self.run_command(self.put_bytes(packed))
         verdicts_of = [[line.split()[1:] for line in text.splitlines()] for text in (plain, found)]
         self.assertEqual(verdicts_of[0], verdicts_of[1])
@@ -316,7 +316,7 @@ class Command(Case):
 
     def test_standard_input(self) -> None:
         text = record(b"abc", OF_ABC[5])
-        for given in (text, gzip.compress(text)):
+        for given in (text, gzip.compress(text, mtime=0)):
             for redirected in (False, True):
                 with open(self.folder / self.put_bytes(given), "rb") as file:
                     done = subprocess.run(

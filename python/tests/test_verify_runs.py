@@ -73,12 +73,12 @@ def kill(number: int) -> None:
 class Quiet(Runs):
     def test_nothing_is_said_of_what_is_good(self) -> None:
         names = [self.put_bytes(f"{number}.warc", GOOD * 3) for number in range(3)]
-        names.append(self.put_bytes("3.warc.gz", gzip.compress(GOOD) * 3))
+        names.append(self.put_bytes("3.warc.gz", gzip.compress(GOOD, mtime=0) * 3))
         for words in (("--quiet",), ("--quiet", "--jobs", "3"), ("--quiet", "--resume", "notes")):
             self.assertEqual(([], [], 0), self.run_command(*words, *names), words)
 
     def test_each_fault_is_on_a_line_with_the_name_of_its_file(self) -> None:
-        member = gzip.compress(GOOD)
+        member = gzip.compress(GOOD, mtime=0)
         for name, text in (
             ("good.warc", GOOD), ("bad.warc", GOOD + BAD + GOOD + BAD), ("cut.warc.gz", member + member[:-1]),
             ("a\nb.warc", BAD), ("none.warc", record(b"abc")),
@@ -214,7 +214,7 @@ class Quiet(Runs):
 
 class Resume(Runs):
     def test_good_archives_are_passed_over_until_they_change(self) -> None:
-        for name, text in (("a.warc", GOOD), ("b.warc", BAD), ("c.warc", record(b"abc")), ("d.warc.gz", gzip.compress(GOOD))):
+        for name, text in (("a.warc", GOOD), ("b.warc", BAD), ("c.warc", record(b"abc")), ("d.warc.gz", gzip.compress(GOOD, mtime=0))):
             self.put_bytes(name, text)
         words = ("--resume", "notes", "a.warc", "b.warc", "c.warc", "d.warc.gz")
         first = self.run_command(*words)

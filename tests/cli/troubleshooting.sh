@@ -83,8 +83,7 @@ verdicts_on_revisits() { # ARCHIVE
 }
 
 line() { # KEY OFFSET: the line of a capture
-    printf '%s 20160919172024 {"url": "http://example.com/", "offset": "%s", "filename": "a"}\n' \
-        "$1" "$2"
+    printf '%s 20160919172024 {"url": "http://example.com/", "offset": "%s", "filename": "a"}\n' "$1" "$2"
 }
 
 second_line_of() { # FILE: its offset
@@ -309,9 +308,7 @@ served() {
 prints "a query" $'refused NotText\n.' served
 
 row "\`query: NotLiteral\`"
-for filter in "original:.*" "mimetype:image/svg%2Bxml" "original:http://example.com/"; do
-    refuses NotLiteral "url=example.com&filter=$filter"
-done
+refuses NotLiteral "url=example.com&filter="{"original:.*",mimetype:image/svg%2Bxml,original:http://example.com/}
 finds "is" "url=example.com&is=original:http://example.com/" response.cdxj
 finds "has" "url=example.com&has=original:.com" response.cdxj
 
@@ -323,9 +320,7 @@ refuses BadStamp "url=example.com&from=" "url=example.com&from=2016-01" "url=exa
 sees "digits" "" "" 0 query "url=example.com&to=201601" response.cdxj
 
 row "\`query: BadLimit\`"
-for limit in -1 0 1000001; do
-    refuses BadLimit "url=example.com&limit=$limit"
-done
+refuses BadLimit "url=example.com&limit="{-1,0,1000001}
 
 row "\`query: BadField\`"
 refuses BadField "url=example.com&fl=url,mime,status"
