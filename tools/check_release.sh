@@ -39,8 +39,10 @@ for file in "$tar_file" "$package" "$wheel"; do
     if [ ! -f "$file" ]; then stop_usage "$file: no such file"; fi
 done
 
+umask 022 # as of root, with whose modes what is unpacked is compared
 work=$(mktemp -d)
-trap 'rm -rf "$work"' EXIT
+environments=$(mktemp -d -p /tmp) # pip writes the path into the first lines of commands, where a blank would end it
+trap 'rm -rf "$work" "$environments"' EXIT
 prefix=$work/$name
 doc=$prefix/share/doc/warcdx
 code=$prefix/share/warcdx
@@ -167,7 +169,7 @@ check_starts() {
     ln -s /usr/bin/python3 "$other/python/python3"
     for script in "$root"/{python,gateway}/bin/*; do
         name=${script##*/}
-        sed "s:/usr/bin/python3:$other/none:g" "$prefix/bin/$name" > "$other/bin/$name"
+        sed "s:/usr/bin/python3:/nonexistent:g" "$prefix/bin/$name" > "$other/bin/$name"
         chmod 755 "$other/bin/$name"
     done
     path=$prefix/bin
@@ -235,7 +237,7 @@ check_debian_package() {
 
 # The wheel in a new virtual environment, without an index of packages, and by a Python that finds no `warcdx` on the PATH.
 check_wheel() {
-    local environment=$work/environment found=$work/wheel.cdxj scripts=("$root"/{python,gateway}/bin/*)
+    local environment=$environments/wheel found=$work/wheel.cdxj scripts=("$root"/{python,gateway}/bin/*)
     /usr/bin/python3 -m venv "$environment"
     check_command "wheel: installed by pip" "$environment/bin/pip" install --no-index --quiet --disable-pip-version-check "$wheel"
     expect "wheel: version" "$version" "$(in_environment python -c 'import warcdx; print(warcdx.__version__)')"
@@ -254,7 +256,7 @@ check_wheel() {
 
 # The gateway of the wheel, in an environment that has the packages of the extra from Debian.
 check_wheel_gateway() {
-    local environment=$work/served server
+    local environment=$environments/served server
     if ! /usr/bin/python3 -c 'import brotli, gunicorn, prometheus_client, regex, werkzeug' 2> "$work/output"; then return; fi
     /usr/bin/python3 -m venv --system-site-packages "$environment"
     check_command "wheel: the extra for the gateway" "$environment/bin/pip" install --no-index --quiet --disable-pip-version-check "${wheel}[gateway]"
@@ -268,7 +270,7 @@ check_wheel_gateway() {
 }
 
 in_environment() { # COMMAND ARGUMENT..
-    env --ignore-environment HOME="$work" PATH=/usr/bin:/bin PYTHONDONTWRITEBYTECODE=1 "$work/environment/bin/$1" "${@:2}" 2>&1
+    env --ignore-environment HOME="$work" PATH=/usr/bin:/bin PYTHONDONTWRITEBYTECODE=1 "$environments/wheel/bin/$1" "${@:2}" 2>&1
 }
 
 # silent_commands RUN FOLDER: the commands of a folder that don't print their usage for --help. RUN runs them.

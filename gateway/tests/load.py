@@ -122,9 +122,8 @@ def silent(server: support.Server, count: int, sent: bytes) -> Iterator[None]:
 @contextlib.contextmanager
 def nginx(server: support.Server, folder: pathlib.Path) -> Iterator[support.Server]:
     """Runs nginx with the file that is shipped, without TLS, access and bounds by address."""
-    with socket.socket() as free:
-        free.bind(("127.0.0.1", 0))
-        port = free.getsockname()[1]
+    bound = support.bound_socket()
+    port = bound.getsockname()[1]
     text = (ROOT / "gateway/service/nginx.conf").read_text()
     for pattern, new in (
         (r"127\.0\.0\.1:8080", "%s:%d" % server.address),
@@ -145,6 +144,7 @@ def nginx(server: support.Server, folder: pathlib.Path) -> Iterator[support.Serv
     finally:
         process.terminate()
         process.wait()
+        bound.close()
 
 
 def main() -> int:

@@ -170,6 +170,17 @@ class Server:
                 self.process.stdout.close()
 
 
+def bound_socket() -> socket.socket:
+    """Returns a socket at a port of 127.0.0.1 that the system gives to nobody else while the socket is open.
+
+    Nothing listens there. A server that sets SO_REUSEADDR, as servers do, can share the port, and then listens alone.
+    """
+    bound = socket.socket()
+    bound.setsockopt(socket.SOL_SOCKET, socket.SO_REUSEADDR, 1)
+    bound.bind(("127.0.0.1", 0))
+    return bound
+
+
 def children(process: int) -> list[int]:
     try:
         found = pathlib.Path(f"/proc/{process}/task/{process}/children").read_text()
@@ -199,6 +210,10 @@ class Case(unittest.TestCase):
         path = self.folder / name
         path.write_text(text)
         return path
+
+    def hold_port(self) -> int:
+        """Returns a port for a server of this test, which no other program gets meanwhile."""
+        return int(self.enterContext(bound_socket()).getsockname()[1])
 
     def start(self, settings: Optional[str] = None, head: str = "", program: "str | pathlib.Path" = PROGRAM, **limits: int) -> Server:
         """Starts a gateway over the file `index`, or with these settings, with `head` before them."""

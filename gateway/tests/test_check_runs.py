@@ -169,8 +169,7 @@ class Runs(Checked):
         self.put(lines(PAGES))
         self.put("", "hold")
         program = self.noted(HOLD)
-        with socket.create_server(("127.0.0.1", 0)) as free:
-            address = free.getsockname()
+        address = ("127.0.0.1", self.hold_port())
         for number in (signal.SIGTERM, signal.SIGINT, signal.SIGKILL):
             begun, words = len(self.checks()), ("--program", program, "--indexes", self.folder / "index")
             process = subprocess.Popen((COMMAND, "--port", str(address[1]), *words))

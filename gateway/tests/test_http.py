@@ -284,9 +284,7 @@ class Starts(Case):
             self.assertEqual(f"warcdx-gateway: {path}: {reason}\n", said)
 
     def test_metrics_may_have_an_address(self) -> None:
-        with socket.socket() as free:
-            free.bind(("127.0.0.1", 0))
-            port = free.getsockname()[1]
+        port = self.hold_port()
         self.put(SAMPLE)
         server = self.start(head=f'metrics = "127.0.0.1:{port}"\n')
         self.assertEqual(404, server.ask("/metrics").status)

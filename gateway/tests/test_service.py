@@ -16,12 +16,6 @@ SERVICE = ROOT / "gateway/service"
 NGINX = shutil.which("nginx", path=os.environ["PATH"] + ":/usr/sbin")
 
 
-def free_port() -> int:
-    with socket.socket() as found:
-        found.bind(("127.0.0.1", 0))
-        return int(found.getsockname()[1])
-
-
 class Unit(Case):
     def setUp(self) -> None:
         super().setUp()
@@ -80,7 +74,7 @@ class Nginx(Case):
         self.index = self.put(SAMPLE.rpartition("org,example")[0] + lines(20_000).replace("com,example)/", "com,example,z)/"))
         head = 'hosts = ["cdx.example.org"]\norigins = ["https://example.net"]\n'
         self.server = self.start(head=head, program=self.program(ALL_IN_ORDER))
-        self.port = free_port()
+        self.port = self.hold_port()
         self.make_keys()
         text = (SERVICE / "nginx.conf").read_text()
         for old, new in (
@@ -224,7 +218,7 @@ class Contained(Case):
 
     def setUp(self) -> None:
         super().setUp()
-        self.port, container = free_port(), ROOT / "gateway/container"
+        self.port, container = self.hold_port(), ROOT / "gateway/container"
         self.listener = self.enterContext(socket.create_server(("127.0.0.1", 0)))  # in the place of the gateway
         self.listener.settimeout(WAIT)
         (words,) = re.findall(r"RUN sed -i (.*?) /etc/nginx/", (container / "Containerfile").read_text(), re.DOTALL)
@@ -244,7 +238,7 @@ class Contained(Case):
             (str(NGINX), "-p", self.folder, "-c", self.put(main, "nginx.conf"), "-e", "stderr"), stderr=subprocess.PIPE
         )
         self.addCleanup(Nginx.end, process)
-        self.wait_for(lambda: not socket.socket().connect_ex(("127.0.0.1", self.port)), "nginx doesn't answer")
+        self.wait_for(lambda: listens(self.port), "nginx doesn't answer")
 
     def passed_on(self, fields: str) -> str:
         """Returns the head of a request as the gateway gets it."""
@@ -262,6 +256,12 @@ class Contained(Case):
         ):
             found = self.passed_on(fields)
             self.assertIn(f"X-Forwarded-For: {address}\r\nX-Forwarded-Proto: {scheme}\r\n", found)
+
+
+def listens(port: int) -> bool:
+    """Returns whether a server listens at a port of this machine."""
+    with socket.socket() as client:
+        return client.connect_ex(("127.0.0.1", port)) == 0
 
 
 def connections(port: int) -> int:

@@ -41,32 +41,40 @@ END
     chmod +x "$work/bin/warcdx"
 }
 
-free_port() {
-    python3 -c 'import socket; s = socket.socket(); s.bind(("127.0.0.1", 0)); print(s.getsockname()[1])'
+# hold_port: prints a port that the system gives to nobody else until standard input ends. sshd can share it, because it sets SO_REUSEADDR.
+hold_port() {
+    python3 -c 'if True:
+        import socket, sys
+        held = socket.socket()
+        held.setsockopt(socket.SOL_SOCKET, socket.SO_REUSEADDR, 1)
+        held.bind(("127.0.0.1", 0))
+        print(held.getsockname()[1], flush=True)
+        sys.stdin.read()'
 }
 
 start_server() {
     local port name options
-    port=$(free_port)
+    coproc held { hold_port; }
+    read -r port <&"${held[0]}"
     ssh-keygen -q -t ed25519 -N "" -f "$work/host"
     ssh-keygen -q -t ed25519 -N "" -f "$work/user"
     if [ "$(id -u)" = 0 ]; then mkdir -p /run/sshd; fi # sshd needs it as root
     cat > "$work/sshd.conf" << END
 ListenAddress 127.0.0.1:$port
-HostKey $work/host
-PidFile $work/sshd.pid
-AuthorizedKeysFile $work/user.pub
+HostKey "$work/host"
+PidFile "$work/sshd.pid"
+AuthorizedKeysFile "$work/user.pub"
 StrictModes no
 UsePAM no
-SetEnv PATH=$work/bin:/usr/bin:/bin
+SetEnv "PATH=$work/bin:/usr/bin:/bin"
 END
     "$(type -P sshd)" -f "$work/sshd.conf" -E "$work/sshd.log"
-    options="-p $port -i $work/user -o StrictHostKeyChecking=no -o UserKnownHostsFile=$work/known -o LogLevel=ERROR"
+    options="-p $port -i user -o StrictHostKeyChecking=no -o UserKnownHostsFile=known -o LogLevel=ERROR" # the lines run in $work
     for name in 127.0.0.1 localhost; do echo "2/ssh $options $name"; done > "$work/machines"
 }
 
 take_lines() { # the three of the page, on the folder of this test
-    grep --extended-regexp '^    (parallel --sshloginfile|awk|warcdx merge) ' "$root/docs/FOLDER.md" | sed "s:/data:$work/data:g" > "$work/lines"
+    grep --extended-regexp '^    (parallel --sshloginfile|awk|warcdx merge) ' "$root/docs/FOLDER.md" | sed "s:/data:'$work'/data:g" > "$work/lines"
 }
 
 run_lines() {
