@@ -132,20 +132,18 @@ class Runs(Checked):
         self.wait_for(lambda: b"x" * 6 in server.ask(ALL).body, "the index isn't used")
 
     def test_a_killed_check_is_no_success(self) -> None:
-        """Neither if the process is killed that waits for the program."""
         self.put(lines(PAGES))
         server = self.start(program=self.noted(HOLD))
         workers = set(server.workers())
         hold = self.put("", "hold")
         self.replace(disorders()["reversed"])
         self.wait_for(lambda: len(self.checks()) == 2, "no check")
-        (between,) = set(server.workers()) - workers
-        (program,) = children(between)
-        os.kill(between, signal.SIGKILL)
+        (program,) = set(server.workers()) - workers
+        os.kill(program, signal.SIGKILL)
         self.wait_for_failure(server)
-        self.wait_for(lambda: not pathlib.Path(f"/proc/{program}").exists(), "it is left")
+        self.assertFalse(pathlib.Path(f"/proc/{program}").exists())
         self.assertEqual([], self.ask_pages(server))
-        self.assertIn("the check of the indexes was ended", server.said.read_text())
+        self.assertIn("the indexes couldn't be checked: warcdx has ended with signal 9", server.said.read_text())
         hold.unlink()
 
     def test_checks_end_with_the_gateway(self) -> None:
@@ -157,12 +155,10 @@ class Runs(Checked):
             self.put("", "hold")
             self.replace(lines(PAGES, size=number))
             self.wait_for(lambda: len(self.checks()) > begun, "no check")
-            (between,) = set(server.workers()) - workers
-            processes = (between, *children(between))
-            self.assertEqual(2, len(processes))
+            (program,) = set(server.workers()) - workers
             server.process.send_signal(number)
             server.process.wait(WAIT)
-            self.wait_for(lambda: not any(pathlib.Path(f"/proc/{each}").exists() for each in processes), "a process is left")
+            self.wait_for(lambda: not pathlib.Path(f"/proc/{program}").exists(), "a process is left")
 
     def test_a_start_can_be_ended_while_indexes_are_checked(self) -> None:
         """Nobody can connect meanwhile."""
@@ -176,12 +172,10 @@ class Runs(Checked):
             self.wait_for(lambda: len(self.checks()) > begun, "no check")
             with self.assertRaises(ConnectionRefusedError):
                 socket.create_connection(address)
-            between = children(process.pid)
-            found = [*between, *(each for one in between for each in children(one))]
-            self.assertEqual(2, len(found))
+            (check,) = children(process.pid)
             process.send_signal(number)
             self.assertEqual(-number, process.wait(WAIT))
-            self.wait_for(lambda: not any(pathlib.Path(f"/proc/{each}").exists() for each in found), "a process is left")
+            self.wait_for(lambda: not pathlib.Path(f"/proc/{check}").exists(), "a process is left")
 
 
 class Settings(Checked):

@@ -117,11 +117,8 @@ class Openings:
             poll = select.poll()
             for opening in self._running:
                 if opening.check is not None:
-                    poll.register(opening.check.socket, select.POLLIN)
+                    poll.register(opening.check.output, select.POLLIN)
             poll.poll(1000 * (TOLD if self._running else TICK))
-        for opening in self._done:
-            if opening.check is not None:
-                opening.check.wait()
 
     def taken(self) -> dict[str, Generation]:
         """Returns the files of each collection. They stay open when this is closed."""

@@ -1,6 +1,5 @@
 """What may not be shown: rules of a file, which are applied to each row and each record."""
 import base64
-import contextlib
 import datetime
 import enum
 import functools
@@ -9,11 +8,10 @@ import json
 import os
 import pathlib
 import re
-import signal
 import time
 import tomllib
 from collections.abc import Collection as Container
-from collections.abc import Iterable, Iterator, Sequence
+from collections.abc import Iterable, Sequence
 from typing import Any, NamedTuple, Optional
 
 from warcdx import Error
@@ -186,25 +184,11 @@ class RulesFile:
             if not content and self._since:  # as where a full disk has cut it
                 raise BadSettings("it is empty: rules = [] says that there are none")
             tables = tomllib.loads(content.decode())
-            with _waiting():
-                return text_of(tables, self._program, self._collections)
+            return text_of(tables, self._program, self._collections)
         except OSError as error:
             raise BadSettings(f"{path}: {error.strerror}") from error
         except (tomllib.TOMLDecodeError, UnicodeDecodeError, RecursionError, BadSettings, Error) as error:
             raise BadSettings(f"{path}: {error}") from error
-
-
-@contextlib.contextmanager
-def _waiting() -> Iterator[None]:
-    """Lets a block wait for the programs that it starts.
-
-    The master's handler of SIGCHLD waits for any process, and would take their exit statuses.
-    """
-    before = signal.pthread_sigmask(signal.SIG_BLOCK, {signal.SIGCHLD})
-    try:
-        yield
-    finally:
-        signal.pthread_sigmask(signal.SIG_SETMASK, before)
 
 
 def text_of(tables: dict[str, Any], program: str, collections: Container[str]) -> bytes:

@@ -5,7 +5,6 @@ import json
 import logging
 import os
 import pathlib
-import resource
 import shutil
 import signal
 import tempfile
@@ -21,10 +20,10 @@ from gunicorn.errors import HaltServer
 from warcdx import Error, command
 
 from .application import Gateway
+from .children import end_with_parent, limit_memory
 from .collection import Collection, most_state
 from .generation import Identity
 from .listening import allow_files, bound, naming, shown_address
-from .parents import end_with_parent
 from .refusal import NAME, say
 from .renewing import AT_A_TIME, Openings, Renewal
 from .rules import MOST as MOST_RULES
@@ -140,9 +139,7 @@ class Server(BaseApplication):
 
     def begin_worker(self, server: Master, worker: Any) -> None:
         end_with_parent(worker.ppid, signal.SIGTERM)
-        memory, most = self._settings.memory, resource.getrlimit(resource.RLIMIT_AS)[1]
-        memory = memory if most == resource.RLIM_INFINITY else min(memory, most)
-        resource.setrlimit(resource.RLIMIT_AS, (memory, memory))
+        limit_memory(self._settings.memory)
         gc.freeze()  # what the master has loaded stays
         self._metrics.sit()
         self._gateway.work.beat = Beat(worker.notify, worker.ppid)

@@ -15,6 +15,7 @@ import gunicorn.arbiter
 import gunicorn.glogging
 import gunicorn.systemd
 import gunicorn.workers.sync
+from gunicorn.errors import HaltServer
 from gunicorn.http.errors import InvalidHeader, InvalidHTTPVersion, InvalidRequestLine, UnsupportedTransferCoding
 
 from .refusal import NAME, without_controls
@@ -75,7 +76,22 @@ class Log(gunicorn.glogging.Logger):
 class Master(gunicorn.arbiter.Arbiter):
     """The process that keeps the workers."""
 
+    def reap_workers(self) -> None:
+        """Takes the statuses of workers, and leaves those of the programs that the master has started."""
+        for process, worker in list(self.WORKERS.items()):
+            try:
+                found, status = os.waitpid(process, os.WNOHANG)
+            except ChildProcessError:
+                found, status = process, 0
+            # This may be called again, by a signal, before it ends.
+            if found and self.WORKERS.pop(process, None) is not None:
+                worker.tmp.close()
+                self.cfg.child_exit(self, worker)
+                if os.waitstatus_to_exitcode(status) in (self.WORKER_BOOT_ERROR, self.APP_LOAD_ERROR):
+                    raise HaltServer("a worker can't be started")
+
     def manage_workers(self) -> None:
+        self.reap_workers()  # also one that has ended before it was known
         if self.app.look():
             self.reload()  # which comes back to this
         else:

@@ -1,7 +1,8 @@
-"""Lets a process end with the one that has started it."""
+"""What a process does first that was just started: it bounds itself, and ends with the one that has started it."""
 import ctypes
 import functools
 import os
+import resource
 
 _PARENT_DEATH_SIGNAL = 1  # PR_SET_PDEATHSIG of prctl(2)
 
@@ -11,6 +12,13 @@ def end_with_parent(parent: int, number: int) -> None:
     load_system_library().prctl(_PARENT_DEATH_SIGNAL, number, 0, 0, 0)
     if os.getppid() != parent:
         os.kill(os.getpid(), number)
+
+
+def limit_memory(memory: int) -> None:
+    """Lets this process have so many bytes of address space, or fewer if it had fewer."""
+    most = resource.getrlimit(resource.RLIMIT_AS)[1]
+    memory = memory if most == resource.RLIM_INFINITY else min(memory, most)
+    resource.setrlimit(resource.RLIMIT_AS, (memory, memory))
 
 
 @functools.lru_cache(maxsize=None)
