@@ -300,7 +300,7 @@ class Reading(support.Pages):
         return self.pair("a.warc", self.offset_of(number))
 
     def source(self) -> Source:
-        return self.gateway.source(self.gateway.main)
+        return Source(self.gateway.main)
 
 
 if __name__ == "__main__":

@@ -216,7 +216,7 @@ class Counts(unittest.TestCase):
         """Otherwise their counts would need a file that grows."""
         metrics = browse_support.metrics()
         for status in (200, 404, 418, 421, *range(520, 600), *range(230, 290)):
-            metrics.count("counted", str(status))
+            metrics.count("counted", status)
         found = [line for line in metrics.text().decode().splitlines() if 'requests_total{collection="counted"' in line]
         statuses = {re.findall('status="(...)"', line)[0]: float(line.rpartition(" ")[2]) for line in found}
         self.assertEqual({"200": 1, "404": 1, "418": 1, "421": 1, "5xx": 80, "2xx": 60}, statuses)

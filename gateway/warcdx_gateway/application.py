@@ -4,17 +4,17 @@ import importlib
 import json
 import re
 import time
-from collections.abc import Callable, Generator, Iterable, Iterator, Mapping
+from collections.abc import Callable, Generator, Iterable, Mapping
 from typing import Any, Optional
-from urllib.parse import unquote, urlsplit
-from wsgiref.types import StartResponse, WSGIApplication, WSGIEnvironment
+from urllib.parse import unquote
+from wsgiref.types import StartResponse, WSGIEnvironment
 
 from gunicorn.http.errors import ChunkMissingTerminator, InvalidChunkSize, NoMoreData, ParseException
 from werkzeug.exceptions import HTTPException, NotFound, RequestEntityTooLarge
 from werkzeug.routing import Map, Rule
 from werkzeug.wrappers import Request, Response
 
-from warcdx import Capture, Error, Fault, Refused, ReplyTooLate, ReplyTooLong
+from warcdx import Error, Fault, Refused, ReplyTooLate, ReplyTooLong
 
 from .answers import Answers, or_nothing
 from .collection import Collection, Source
@@ -22,8 +22,8 @@ from .parameters import Form, translated
 from .plan import Plan, plan_of
 from .refusal import TEXT, Refusal, http_response, program_refusal, say, text_of
 from .rows import Output
-from .rules import Action, rules_of
-from .sending import Headers, Sent, streamed
+from .rules import rules_of
+from .sending import Sent, streamed
 from .settings import Settings, is_loopback
 from .shared import Board, Metrics
 from .waiting import address_of
@@ -32,7 +32,7 @@ from .work import MOST_FREE, Work
 METHODS = ("GET", "HEAD")
 BAD_BODIES = (ChunkMissingTerminator, InvalidChunkSize, NoMoreData, ParseException, ValueError)
 # What links begin with, as browsers read it: no other character may stand in it.
-HOST = re.compile(r"([A-Za-z0-9._-]+|\[[0-9A-Fa-f:.]+\])(:[0-9]{1,5})?")
+HOST = re.compile(r"([A-Za-z0-9._-]+|\[[0-9A-Fa-f:.]+\])(?::[0-9]{1,5})?")
 ORIGIN = re.compile(r"^[A-Za-z][A-Za-z0-9+.-]*://[^/?]*")  # before the path in the line of a request
 FORM = "application/x-www-form-urlencoded"
 KINDS = {Output.TEXT: TEXT, Output.JSON: "application/json", Output.CDXJ: TEXT, Output.LINES: "text/x-ndjson; charset=utf-8"}
@@ -47,7 +47,7 @@ LOOKS = 0.25  # seconds between two looks at the words of the master
 TRIES = 4  # to have the files of the master, in a look
 AGAIN = 0.05  # seconds after which they are tried again
 
-Handler = Callable[..., WSGIApplication]  # of the gateway, a request and the values of its path
+Handler = Callable[..., Response]  # of the gateway, a request and the values of its path
 
 
 class GatewayRequest(Request):
@@ -143,45 +143,11 @@ class Gateway:
             self._followed = text if all(followed) else b""
         return bool(self._followed) or not text
 
-    def source(self, collection: Collection) -> Source:
-        """Returns what asks the indexes of a collection for an answer."""
-        return Source(collection, self.settings.limits.query)
-
-    def captures(self, collection: Collection, query: str, limit: int) -> list[Capture]:
-        """Returns the first captures that a query of the program selects, at most `limit`.
-
-        Raises the errors of the package, or Refusal if it takes too long.
-        """
-        groups = self.source(collection).values(query, limit=limit)
-        return [Capture.of(values) for group in groups for values in group]
-
-    def readable(self, collection: Collection, query: str, limit: int) -> list[Capture]:
-        """Returns the first captures whose records may be shown."""
-        groups = self.source(collection).values(query, limit=limit, most=Action.SHOW)
-        return [Capture.of(values) for group in groups for values in group]
-
-    def first_of_keys(self, collection: Collection, after: str, query: str, limit: int) -> list[Capture]:
-        """Returns the first capture of each key that a query selects, of the first `limit` keys.
-
-        `after` is the place that the query has as its resume key: its key was given before.
-        """
-        if not collection.rules:
-            return self.captures(collection, f"{query}&collapse=urlkey", limit)
-        found, last = list[Capture](), after.partition(" ")[0]
-        for group in self.source(collection).values(query):
-            for values in group:
-                if values[0] != last:
-                    last = values[0]
-                    found.append(Capture.of(values))
-                if len(found) == limit:
-                    return found
-        return found
-
-    def answer(self, request: GatewayRequest, collection: Collection, form: Form, query: Optional[str] = None) -> WSGIApplication:
+    def answer(self, request: GatewayRequest, collection: Collection, form: Form, query: Optional[str] = None) -> Response:
         """Answers a query, by default that of the request, in a form of its parameters."""
         text = translated(request.query_text if query is None else query)
         plan = plan_of(text, form, self.settings.limits, not collection.rules)
-        source, headers = self.source(collection), collection.validators()
+        source, headers = Source(collection), collection.validators()
         if is_unchanged(request, headers):
             source.check()  # a query that is refused has no 304
             collection.index.text(plan.plain_query(plan.resume_key, 1))
@@ -199,30 +165,24 @@ class Gateway:
         """Returns the rows of a query in the form of the Internet Archive, which names `fl`."""
         limits, is_open = self.settings.limits, not collection.rules
         plan = plan_of(f"{query}&output=json", Form.WAYBACK, limits, is_open)
-        made = self._answers.pieces(plan, self.source(collection), collection.tag)
+        made = self._answers.pieces(plan, Source(collection), collection.tag)
         return list(json.loads(b"".join(made)))[1:]
 
     def __call__(self, environ: WSGIEnvironment, start_response: StartResponse) -> Iterable[bytes]:
         client = environ.get("gunicorn.socket")
         start = time.monotonic() if client is None else client.arrived
         self.work.begin(client)
-        name, answer = self._answer(GatewayRequest(environ, populate_request=False))
-        if isinstance(answer, Response):
-            body = answer.response if answer.is_sequence else ()
-            self.work.expect_slot(sum(map(len, body)) if answer.is_sequence else MOST_FREE + 1)
+        name, response = self._answer(GatewayRequest(environ, populate_request=False))
+        body = response.response
+        self.work.expect_slot(sum(map(len, body)) if isinstance(body, list) else MOST_FREE + 1)
         self.work.settle()
+        self.metrics.count(name, response.status_code)
+        response.headers["X-Content-Type-Options"] = "nosniff"
+        if name and self.settings.origins:
+            self._share(response, environ.get("HTTP_ORIGIN", ""))
+        return Sent(self.work, self.metrics, environ, start, response(environ, start_response))
 
-        def begin(status: str, headers: Headers, *rest: Any) -> Any:
-            """Begins an answer with what each one has."""
-            self.metrics.count(name, status[:3])
-            headers.append(("X-Content-Type-Options", "nosniff"))
-            if name and self.settings.origins:
-                headers += self._sharing(environ.get("HTTP_ORIGIN", ""), headers)
-            return start_response(status, headers, *rest)
-
-        return Sent(self.work, self.metrics, environ, start, answer(environ, begin))
-
-    def _answer(self, request: GatewayRequest) -> tuple[str, WSGIApplication]:
+    def _answer(self, request: GatewayRequest) -> tuple[str, Response]:
         """Returns the name of the collection, if there is one, and what answers."""
         name = ""
         try:
@@ -278,19 +238,18 @@ class Gateway:
         if host not in self.settings.hosts and "*" not in self.settings.hosts:
             raise Refusal("Host", "Host", "this server has another name; its setting hosts has those that it takes", host, status=421)
 
-    def _sharing(self, origin: str, headers: Headers) -> Iterator[tuple[str, str]]:
-        """Yields the headers with which a page of an origin may read an answer, if it may.
+    def _share(self, response: Response, origin: str) -> None:
+        """Lets a page of an origin read an answer, if it may.
 
         What a browser shows, with a policy of its own, is for readers alone.
         """
         allowed = "*" if "*" in self.settings.origins else origin
-        is_shown = any(name == "Content-Security-Policy" for name, _ in headers)
-        if is_shown or allowed not in self.settings.origins:
+        if "Content-Security-Policy" in response.headers or allowed not in self.settings.origins:
             return
-        yield "Access-Control-Allow-Origin", allowed
-        yield "Access-Control-Expose-Headers", "ETag, Last-Modified, Link"
+        response.headers["Access-Control-Allow-Origin"] = allowed
+        response.headers["Access-Control-Expose-Headers"] = "ETag, Last-Modified, Link"
         if allowed != "*":
-            yield "Vary", "Origin"
+            response.headers.add("Vary", "Origin")
 
 
 def bad_body() -> Refusal:
@@ -374,10 +333,7 @@ def kind_of(plan: Plan) -> str:
     return KINDS[plan.output]
 
 
-@functools.lru_cache
 def host_of(field: str) -> str:
     """Returns the host of a field `Host` without its port, nothing if it can't be read."""
-    try:
-        return urlsplit(f"//{field}").hostname or "" if HOST.fullmatch(field) else ""
-    except ValueError:
-        return ""
+    found = HOST.fullmatch(field)
+    return found[1].strip("[]").lower() if found else ""

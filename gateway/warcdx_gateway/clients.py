@@ -8,7 +8,6 @@ from collections.abc import Mapping
 from datetime import datetime, timezone
 from typing import Optional
 from urllib.parse import parse_qsl, unquote_plus
-from wsgiref.types import WSGIApplication
 from xml.sax.saxutils import escape
 
 from werkzeug.datastructures import MultiDict
@@ -18,7 +17,7 @@ from werkzeug.wrappers import Request, Response
 
 from . import memento
 from .application import METHODS, WAYBACK_PATHS, Gateway, GatewayRequest, rule
-from .collection import Collection
+from .collection import Collection, Source
 from .history import History, first_moment, nearest_of, quoted
 from .parameters import Form, is_number
 from .refusal import Refusal
@@ -72,14 +71,14 @@ def rules() -> list[Rule]:
     ]
 
 
-def _wayback(gateway: Gateway, request: GatewayRequest) -> WSGIApplication:
+def _wayback(gateway: Gateway, request: GatewayRequest) -> Response:
     query = request.query_text
     if request.path == "/web/timemap/json":
         query = _with(query, "output", "json")
     return gateway.answer(request, gateway.main, Form.WAYBACK, query)
 
 
-def _answer(form: Optional[Form], gateway: Gateway, request: GatewayRequest, collection: str) -> WSGIApplication:
+def _answer(form: Optional[Form], gateway: Gateway, request: GatewayRequest, collection: str) -> Response:
     """Answers in a form, or else in that of the collection. pywb has a TimeMap as output=link."""
     found = gateway.collection(collection)
     form = form or Form(found.settings.form)
@@ -89,7 +88,7 @@ def _answer(form: Optional[Form], gateway: Gateway, request: GatewayRequest, col
     return gateway.answer(request, found, form)
 
 
-def _time_map_in(output: str, gateway: Gateway, request: GatewayRequest, url: str, collection: str = "") -> WSGIApplication:
+def _time_map_in(output: str, gateway: Gateway, request: GatewayRequest, url: str, collection: str = "") -> Response:
     """Lists the captures of a URL, in the form of the collection."""
     found = gateway.collection(collection)
     resource = memento.Resource(gateway, request, collection, memento.url_of(request, 3))
@@ -112,7 +111,7 @@ def collinfo(gateway: Gateway, request: Request) -> Response:
     return Response(json.dumps(found, ensure_ascii=False, indent=1) + "\n", content_type=JSON)
 
 
-def outback(gateway: Gateway, request: GatewayRequest, collection: str) -> WSGIApplication:
+def outback(gateway: Gateway, request: GatewayRequest, collection: str) -> Response:
     """Answers as OutbackCDX does: eleven columns, or the XML of OpenWayback with `q`."""
     found = gateway.collection(collection)
     if "q" in request.args:
@@ -213,7 +212,7 @@ def _available(gateway: Gateway, request: Request, given: "MultiDict[str, str]")
 
 def sparkline(gateway: Gateway, request: GatewayRequest) -> Response:
     """Counts the captures of a URL by months, as the Internet Archive's pages and extension ask."""
-    source = gateway.source(gateway.main)
+    source = Source(gateway.main)
     years: dict[str, list[int]] = {}
     statuses: dict[str, list[str]] = {}
     first = last = None

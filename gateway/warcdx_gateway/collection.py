@@ -11,7 +11,7 @@ from collections.abc import Generator, Iterator, Sequence
 from email.utils import formatdate
 from typing import Any, Optional
 
-from warcdx import FIELDS, Fault, Index, ReplyTooLate
+from warcdx import FIELDS, Capture, Fault, Index, ReplyTooLate
 from warcdx.program import memory_file
 
 from .generation import Generation, Identity, names_of
@@ -49,7 +49,7 @@ class Collection:
         self.is_alone = False
         self.is_old = False
         self.is_usable = True
-        self._limits = settings.limits
+        self.limits = settings.limits
         self._index: Optional[Index] = None
         self._owner = 0
         self._use(generation)
@@ -64,7 +64,7 @@ class Collection:
         if not self.is_usable:
             raise changed()
         if self._index is None or self._owner != os.getpid():
-            self._index = self.generation.index(self.program, self._limits.query)
+            self._index = self.generation.index(self.program, self.limits.query)
             self._owner = os.getpid()
         return self._index
 
@@ -109,6 +109,34 @@ class Collection:
             headers["Last-Modified"] = self._date
         return headers
 
+    def captures(self, query: str, limit: int, most: Action = Action.METADATA) -> list[Capture]:
+        """Returns the first captures that a query of the program selects, at most `limit`, but for those that are ruled out.
+
+        Raises the errors of the package, or Refusal if it takes too long.
+        """
+        groups = Source(self).values(query, limit=limit, most=most)
+        return [Capture.of(values) for group in groups for values in group]
+
+    def readable(self, query: str, limit: int) -> list[Capture]:
+        """Returns the first captures whose records may be shown."""
+        return self.captures(query, limit, Action.SHOW)
+
+    def first_of_keys(self, after: str, query: str, limit: int) -> list[Capture]:
+        """Returns the first capture of each key that a query selects, of the first `limit` keys.
+
+        `after` is the place that the query has as its resume key: its key was given before.
+        """
+        if not self.rules:
+            return self.captures(f"{query}&collapse=urlkey", limit)
+        found, last = list[Capture](), after.partition(" ")[0]
+        for values in itertools.chain.from_iterable(Source(self).values(query)):
+            if values[0] != last:
+                last = values[0]
+                found.append(Capture.of(values))
+            if len(found) == limit:
+                break
+        return found
+
     def close(self) -> None:
         """Ends the programs of this process, and closes the files."""
         if self._index is not None and self._owner == os.getpid():
@@ -118,7 +146,7 @@ class Collection:
 
     def _use(self, generation: Generation) -> None:
         self.generation = generation
-        key = (self.settings, generation.stamp, self._limits)
+        key = (self.settings, generation.stamp, self.limits)
         self._tag = hashlib.sha256(repr(key).encode()).hexdigest()[:20]
         self.modified = max(max(times[-2:]) for times in generation.stamp) // 10**9
         self._date = formatdate(self.modified, usegmt=True)
@@ -127,15 +155,15 @@ class Collection:
 class Source:
     """Asks an index for the captures of an answer, each time by one query of the program.
 
-    Each piece of a reply may take `piece` seconds. It is yielded only if the files are those that
-    were checked.
+    Each piece of a reply may take the seconds of `limits.query`. It is yielded only if the files are
+    those that were checked.
     """
 
-    def __init__(self, collection: Collection, piece: float) -> None:
+    def __init__(self, collection: Collection) -> None:
         self.rules = collection.rules
         self._index = collection.index
         self._expect_unchanged = collection.expect_unchanged
-        self._piece = piece
+        self._piece = collection.limits.query
         self.program = collection.program
         self._generation = collection.generation
         self._origins: list[tuple[int, int]] = []  # of a part: a file of the index, and its offset there

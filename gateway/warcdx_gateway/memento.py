@@ -74,7 +74,7 @@ class Resource:
         self.url, self.original = url, url if has_scheme else f"http://{url}"
         self.root = f"{request.root_url.rstrip('/')}/{collection or 'web'}"
         self.collection = gateway.collection(collection)
-        self.history = History(functools.partial(gateway.readable, self.collection), url=url)
+        self.history = History(self.collection.readable, url=url)
 
     def memento(self, capture: Capture, mark: str = "id_") -> str:
         """Returns the URL of a capture as it was archived. The line of an index may have no URL."""
@@ -216,11 +216,7 @@ def capture_of(gateway: Gateway, request: Request, collection: str, sent: str, t
     window = None
     if is_window(request):
         page = functools.partial(
-            embedding.embedded,
-            gateway,
-            resource.collection,
-            capture,
-            linked=lambda url: f"{resource.root}/{capture.timestamp}/{escaped(url)}",
+            embedding.embedded, resource.collection, capture, linked=lambda url: f"{resource.root}/{capture.timestamp}/{escaped(url)}"
         )
         window = Window(resource.memento(capture, ""), mark == "", page)
     own = {"Memento-Datetime": date_of(capture)}

@@ -6,7 +6,9 @@ import struct
 import time
 from collections.abc import Generator, Iterable, Iterator
 from dataclasses import dataclass
-from wsgiref.types import StartResponse, WSGIApplication, WSGIEnvironment
+from wsgiref.types import WSGIEnvironment
+
+from werkzeug.wrappers import Response
 
 from .refusal import say, text_of
 from .shared import Metrics
@@ -60,7 +62,7 @@ class Sent:
             found.setsockopt(socket.SOL_SOCKET, socket.SO_LINGER, struct.pack("ii", 1, 0))
 
 
-def streamed(pieces: Generator[bytes, None, None], headers: Headers, work: Work) -> WSGIApplication:
+def streamed(pieces: Generator[bytes, None, None], headers: Headers, work: Work) -> Response:
     """Returns an answer whose pieces are made when they are sent.
 
     The first ones are made at once. So what fails until then has a status, and a short answer has
@@ -72,18 +74,8 @@ def streamed(pieces: Generator[bytes, None, None], headers: Headers, work: Work)
         size += len(piece)
         if size > MOST_FREE:
             work.expect_slot()
-            return answer_of(headers, joined(begun, pieces))
-    return answer_of([*headers, ("Content-Length", str(size))], [b"".join(begun)])
-
-
-def answer_of(headers: Headers, pieces: Iterable[bytes]) -> WSGIApplication:
-    """Returns an answer of captures in pieces."""
-
-    def answer(environ: WSGIEnvironment, start_response: StartResponse) -> Iterable[bytes]:
-        start_response("200 OK", headers)
-        return () if environ["REQUEST_METHOD"] == "HEAD" else pieces
-
-    return answer
+            return Response(joined(begun, pieces), 200, headers)
+    return Response(b"".join(begun), 200, headers)
 
 
 def joined(begun: list[bytes], pieces: Generator[bytes, None, None]) -> Iterator[bytes]:

@@ -140,9 +140,9 @@ class Metrics:
             "warcdx_gateway_request_seconds", "Seconds from a request to the end of its answer.", registry=registry, buckets=BOUNDS
         )
 
-    def count(self, collection: str, status: str) -> None:
+    def count(self, collection: str, status: int) -> None:
         """Counts a request by its status, or by the first digit of one that HTTP doesn't have."""
-        self.requests.labels(collection, status if int(status) in STATUSES else f"{status[0]}xx").inc()
+        self.requests.labels(collection, status if status in STATUSES else f"{status // 100}xx").inc()
 
     def sit(self) -> None:
         """Takes a seat, in a new worker."""

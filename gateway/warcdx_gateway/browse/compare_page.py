@@ -1,5 +1,4 @@
 """The page with the texts of two captures side by side."""
-import functools
 import json
 import pathlib
 import subprocess
@@ -11,7 +10,6 @@ from werkzeug.wrappers import Response
 
 from warcdx import Capture
 
-from ..application import Gateway
 from ..collection import Collection
 from . import comparing, dates, reading
 from .layout import collection_page
@@ -43,9 +41,9 @@ class Side:
         return dates.in_words(timestamp) if timestamp else "no date"
 
 
-def compare_page(gateway: Gateway, collection: Collection, captures: list[Capture]) -> Response:
+def compare_page(collection: Collection, captures: list[Capture]) -> Response:
     """Returns the page of two captures. Raises NotShown if they can't be compared."""
-    sides = [side_of(gateway, collection, capture) for capture in captures]
+    sides = [side_of(collection, capture) for capture in captures]
     for side in sides:
         if not side.content.is_text:
             kind = cut(side.content.kind or "not named", 80)
@@ -62,12 +60,12 @@ def _content(sides: list[Side]) -> Markup:
     )
 
 
-def side_of(gateway: Gateway, collection: Collection, capture: Capture) -> Side:
+def side_of(collection: Collection, capture: Capture) -> Side:
     """Reads a capture, and the original if it is a revisit without a payload."""
     record = reading.read(collection, capture)
     if record.head.kind != "revisit" or record.payload.content:
         return Side(capture, record, record)
-    original = original_of(functools.partial(gateway.captures, collection), record.head)
+    original = original_of(collection.captures, record.head)
     if original is None:
         why = "The original of a revisit isn't in the indexes."
         raise NotShown("The captures can't be compared.", why, 422)

@@ -6,7 +6,6 @@ Elements `link` but for style sheets go, and frames are empty, as a browser woul
 server for some of them. Other URLs stay as they are, and lead nowhere.
 """
 import base64
-import functools
 import html
 import re
 import time
@@ -16,7 +15,6 @@ from urllib.parse import urljoin
 
 from warcdx import Capture, Error
 
-from ..application import Gateway
 from ..collection import Collection
 from ..history import History
 from ..refusal import Refusal
@@ -57,9 +55,9 @@ Linked = Callable[[str], str]
 class Parts:
     """The parts of a page, as `data:` URLs, within limits of number, bytes and time."""
 
-    def __init__(self, gateway: Gateway, collection: Collection, timestamp: str) -> None:
-        self._ask = functools.partial(gateway.readable, collection)
-        self._work = gateway.work
+    def __init__(self, collection: Collection, timestamp: str) -> None:
+        self._ask = collection.readable
+        self._work = collection.work
         self._collection = collection
         self._timestamp = timestamp
         self._made: dict[tuple[str, str], Optional[str]] = {}
@@ -103,12 +101,12 @@ class Parts:
         return f"data:{record.kind};base64,{base64.b64encode(content).decode()}"
 
 
-def embedded(gateway: Gateway, collection: Collection, capture: Capture, record: reading.Read, linked: Optional[Linked] = None) -> bytes:
+def embedded(collection: Collection, capture: Capture, record: reading.Read, linked: Optional[Linked] = None) -> bytes:
     """Returns the payload of a page of HTML with its images and style sheets, in UTF-8.
 
     `linked` returns the URL to which a link leads. Without it links stay as they are.
     """
-    parts = Parts(gateway, collection, capture.timestamp)
+    parts = Parts(collection, capture.timestamp)
     page = page_text(record.payload.content, record.charset).encode()
     return filled(page, target_of(record.head) or capture.original, parts.url, linked)
 

@@ -6,8 +6,7 @@ from typing import Optional
 from warcdx import Capture
 
 from ..selection import REVISIT
-from ..application import Gateway
-from ..collection import Collection
+from ..collection import Collection, Source
 from ..history import Ask, quoted
 from . import dates
 from .counting import count_of_url
@@ -34,18 +33,18 @@ class Part:
     counts: tuple[str, ...] = ()
 
 
-def captures(gateway: Gateway, collection: Collection, search: Search, after: str) -> Part:
+def captures(collection: Collection, search: Search, after: str) -> Part:
     """Returns the captures that follow a place, in the order of the index."""
-    ask = functools.partial(gateway.captures, collection)
+    ask = collection.captures
     return _part(ask, search.query(resumeKey=after), bool(after))
 
 
-def addresses(gateway: Gateway, collection: Collection, search: Search, after: str) -> Part:
+def addresses(collection: Collection, search: Search, after: str) -> Part:
     """Returns the first capture of each URL key that follows a place, and how many each has."""
-    ask = functools.partial(gateway.first_of_keys, collection, after)
+    ask = functools.partial(collection.first_of_keys, after)
     part = _part(ask, search.query(resumeKey=after), bool(after))
     times = Search("", "exact", search.first, search.last)
-    source = gateway.source(collection)
+    source = Source(collection)
     counts = tuple(count_of_url(source, replace(times, key=each.urlkey)) for each in part.captures)
     return replace(part, counts=counts)
 

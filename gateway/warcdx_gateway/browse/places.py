@@ -1,6 +1,5 @@
 """Where records are, as the links to them say it: only what an index names is read."""
 import contextlib
-import functools
 import re
 from collections.abc import Mapping
 from dataclasses import dataclass
@@ -11,7 +10,6 @@ from warcdx.fetching import is_unmodified, url_of_original
 from warcdx.record import Head
 
 from ..selection import REVISIT
-from ..application import Gateway
 from ..collection import Collection
 from ..history import MOST, Ask, History, before_time, quoted, resumed
 from .dates import timestamp_of
@@ -57,9 +55,9 @@ class Place:
             )
         return cls(filename, int(offset), timestamp, key, url)
 
-    def capture(self, gateway: Gateway, collection: Collection) -> Capture:
+    def capture(self, collection: Collection) -> Capture:
         """Returns the line of an index that names the record. Raises NotShown if there is none."""
-        ask, key = functools.partial(gateway.captures, collection), self.key
+        ask, key = collection.captures, self.key
         if not key:
             first = History(ask, url=self.url).first()
             key = first.urlkey if first else ""

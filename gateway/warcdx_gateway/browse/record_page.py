@@ -1,5 +1,4 @@
 """The page of a record: its headers as they stand, the verdict on its digests, its payload."""
-import functools
 from collections.abc import Sequence
 from typing import Optional
 
@@ -9,7 +8,6 @@ from warcdx import Capture
 from warcdx.record import Head, without_brackets
 from warcdx.record_digests import Verdict, Verdicts
 
-from ..application import Gateway
 from ..collection import Collection
 from ..history import History
 from . import dates, reading
@@ -36,13 +34,13 @@ _HELD = (
 _TOO_LONG = f"Not compared: the block has more than {MOST_VERIFIED:,} bytes."
 
 
-def record_page(gateway: Gateway, collection: Collection, capture: Capture) -> Response:
+def record_page(collection: Collection, capture: Capture) -> Response:
     """Returns the page of the record of a capture. Raises NotShown."""
     record = reading.read(collection, capture)
     is_short = record.length <= MOST_VERIFIED
     verdicts = reading.verdicts(collection, capture) if is_short else None
     is_revisit = record.head.kind == "revisit"
-    ask = functools.partial(gateway.captures, collection)
+    ask = collection.captures
     original = original_of(ask, record.head) if is_revisit else None
     history = History(ask, key=capture.urlkey)
     around = history.before(capture.timestamp), history.after(capture.timestamp)

@@ -27,7 +27,7 @@ ICON = "icon.svg"
 PARTS = {"style.css": "text/css; charset=utf-8", ICON: "image/svg+xml"}
 WINDOW = "document"  # the value of Sec-Fetch-Dest for a page that gets a window of its own
 
-Page = Callable[[Gateway, Collection, Request], Response]
+Page = Callable[[Collection, Request], Response]
 
 
 def rules() -> list[Rule]:
@@ -81,7 +81,7 @@ def _answer(page: Page, gateway: Gateway, request: Request, collection: str) -> 
     try:
         if page in (search_of, captures_of):
             search = Search.of(request.args)
-        return page(gateway, found, request)
+        return page(found, request)
     except (NotShown, Error, Refusal, MemoryError) as error:
         return layout.refusal_page(found, _not_shown(error, search), search)
 
@@ -105,40 +105,40 @@ def _not_shown(error: Exception, search: Optional[Search]) -> NotShown:
     return NotShown("The collection can't be read now.", "Try again in a minute.", 503)
 
 
-def start(gateway: Gateway, collection: Collection, request: Request) -> Response:
-    return start_page(gateway, collection)
+def start(collection: Collection, request: Request) -> Response:
+    return start_page(collection)
 
 
-def search_of(gateway: Gateway, collection: Collection, request: Request) -> Response:
+def search_of(collection: Collection, request: Request) -> Response:
     query = request.args
-    return search_page(gateway, collection, Search.of(query), query.get("year", ""), query.get("after", ""))
+    return search_page(collection, Search.of(query), query.get("year", ""), query.get("after", ""))
 
 
-def captures_of(gateway: Gateway, collection: Collection, request: Request) -> Response:
+def captures_of(collection: Collection, request: Request) -> Response:
     query = request.args
-    return captures_page(gateway, collection, Search.of(query), query.get("after", ""))
+    return captures_page(collection, Search.of(query), query.get("after", ""))
 
 
-def compare(gateway: Gateway, collection: Collection, request: Request) -> Response:
+def compare(collection: Collection, request: Request) -> Response:
     places = [Place.of_text(request.args.get(name, "")) for name in ("first", "second")]
-    gateway.work.expect_slot()
-    captures = [place.capture(gateway, collection) for place in places]
-    return compare_page(gateway, collection, captures)
+    collection.work.expect_slot()
+    captures = [place.capture(collection) for place in places]
+    return compare_page(collection, captures)
 
 
-def record(gateway: Gateway, collection: Collection, request: Request) -> Response:
-    capture = Place.of(request.args).capture(gateway, collection)
-    return record_page(gateway, collection, capture)
+def record(collection: Collection, request: Request) -> Response:
+    capture = Place.of(request.args).capture(collection)
+    return record_page(collection, capture)
 
 
-def payload(gateway: Gateway, collection: Collection, request: Request) -> Response:
+def payload(collection: Collection, request: Request) -> Response:
     """Answers with a payload for the frame of its record's page.
 
     A window of its own shows that page instead.
     """
     if request.headers.get("Sec-Fetch-Dest") == WINDOW:
         return responses.redirect(f"record?{request.query_string.decode('latin-1')}")
-    capture = Place.of(request.args).capture(gateway, collection)
+    capture = Place.of(request.args).capture(collection)
     record = reading.read(collection, capture)
     kind = record.shown_type
     if kind is None:
@@ -146,20 +146,20 @@ def payload(gateway: Gateway, collection: Collection, request: Request) -> Respo
         raise NotShown("The payload isn't shown.", why, 415)
     content = record.payload.content
     if record.is_html:
-        content = embedding.embedded(gateway, collection, capture, record)
+        content = embedding.embedded(collection, capture, record)
     return Response(content, 200, responses.payload_headers(), content_type=kind)
 
 
-def download(gateway: Gateway, collection: Collection, request: Request) -> Response:
+def download(collection: Collection, request: Request) -> Response:
     """Answers with a record or its payload, as a file to save, piece by piece."""
     what, place = request.args.get("what", "record"), Place.of(request.args)
     if what not in ("record", "payload"):
         raise NotShown("The download was refused.", "A record or its payload can be saved.")
-    capture = place.capture(gateway, collection)
+    capture = place.capture(collection)
     state = reading.state_of(collection, capture)
     with contextlib.ExitStack() as stack:
         record = stack.enter_context(reading.opened(collection, capture))
-        opened = Download(stack, record, what, gateway.work)
+        opened = Download(stack, record, what, collection.work)
     headers = responses.attachment_headers(_file_name(opened, place, what))
     response = Response(opened, 200, headers, content_type="application/octet-stream")
     response.set_etag(tag_of(what, state))

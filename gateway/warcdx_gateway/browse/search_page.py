@@ -3,8 +3,7 @@ import re
 
 from werkzeug.wrappers import Response
 
-from ..application import Gateway
-from ..collection import Collection
+from ..collection import Collection, Source
 from . import calendars, dates, lists
 from .counting import Counts, count
 from .layout import collection_page
@@ -14,12 +13,12 @@ from .searching import Search
 _YEAR = re.compile("[0-9]{4}")
 
 
-def search_page(gateway: Gateway, collection: Collection, search: Search, year: str, after: str) -> Response:
+def search_page(collection: Collection, search: Search, year: str, after: str) -> Response:
     """Returns the page of a search.
 
     It has the calendar of a year, for one URL that of the last year with captures by default.
     """
-    counts = count(gateway.source(collection), search)
+    counts = count(Source(collection), search)
     if not counts.total:
         return collection_page(collection, search.shown, nothing(search), search=search)
     chosen = year if _YEAR.fullmatch(year) else ""
@@ -27,11 +26,11 @@ def search_page(gateway: Gateway, collection: Collection, search: Search, year: 
         chosen = max(counts.years)
     if search.is_single:
         within = search.within(chosen)
-        found = lists.captures(gateway, collection, within, after)
+        found = lists.captures(collection, within, after)
         listed = lists.captures_section(found, within, f"Captures in {chosen}")
     else:
         within = search.within(chosen) if chosen else search
-        found = lists.addresses(gateway, collection, within, after)
+        found = lists.addresses(collection, within, after)
         listed = lists.addresses_section(found, within)
     content: list[Child] = [
         heading(search),
@@ -63,9 +62,9 @@ def _year(counts: Counts, search: Search, chosen: str) -> Markup:
     return element("section", element("h2", words), drawn, class_="card")
 
 
-def captures_page(gateway: Gateway, collection: Collection, search: Search, after: str) -> Response:
+def captures_page(collection: Collection, search: Search, after: str) -> Response:
     """Returns the list of the captures of a search, for example of a day."""
-    found = lists.captures(gateway, collection, search, after)
+    found = lists.captures(collection, search, after)
     words = "Captures"
     if search.first and search.first == search.last:
         where = "on" if len(search.first) == 8 else "in"

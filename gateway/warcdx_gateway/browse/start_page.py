@@ -10,7 +10,6 @@ from werkzeug.wrappers import Response
 
 from warcdx.url_keys import host_of
 
-from ..application import Gateway
 from ..collection import Collection
 from ..history import quoted
 from . import calendars, dates
@@ -28,13 +27,13 @@ _YEAR = re.compile("[0-9]{4}")
 _AFTER = "\U0010ffff 00000000000000 - 0"
 
 
-def start_page(gateway: Gateway, collection: Collection) -> Response:
+def start_page(collection: Collection) -> Response:
     summary = None if collection.rules else summary_of(collection)
     content: list[Child] = [element("h1", collection.title), element("p", "Search for a URL or a host to see when it was captured.")]
     if summary is not None:
         content += _summary(summary)
     else:
-        content += _some_hosts(some_hosts(gateway, collection))
+        content += _some_hosts(some_hosts(collection))
         content.append(None if collection.rules else _files(collection))
     return collection_page(collection, collection.title, *content)
 
@@ -133,13 +132,13 @@ def _damaged(value: object) -> Child:
     )
 
 
-def some_hosts(gateway: Gateway, collection: Collection) -> list[str]:
+def some_hosts(collection: Collection) -> list[str]:
     """Returns the first hosts in the order of the index, by one short query for each."""
     found: dict[str, None] = {}
     after = ""
     for _ in range(MOST_ROWS):
         query = "key=&matchType=prefix" + (f"&resumeKey={quoted(after)}" if after else "")
-        captures = gateway.captures(collection, query, 1)
+        captures = collection.captures(query, 1)
         if not captures:
             break
         key = captures[0].urlkey
