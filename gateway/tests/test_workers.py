@@ -6,10 +6,15 @@ import signal
 import socket
 import time
 import unittest
+from unittest import mock
 
+from warcdx_gateway import checking
+from warcdx_gateway.renewing import TICK, Openings
+from warcdx_gateway.settings import CollectionSettings
 from warcdx_gateway.waiting import QUEUES
+from warcdx_gateway.workers import Sign
 
-from .support import LINE, WAIT, Case, connected, lines
+from .support import LINE, PROGRAM, SAMPLE, WAIT, Case, connected, lines
 
 EXACT = "/cdx?url=example.com/0000007&fl=length"
 ALL = "/cdx?url=example.com/*"
@@ -88,6 +93,35 @@ class Workers(Case):
         self.assertEqual((200, b"14999\n"), server.ask("/cdx?key=a&sort=reverse&limit=1&fl=offset")[::2])
         self.assertLess(server.memory(), 3 * memory)
         self.assertNotIn("Traceback", server.said.read_text())
+
+
+class Clocks(Case):
+    """The clock of the machine is set, by an hour, while the gateway runs."""
+
+    def at(self, hours: int) -> "contextlib.AbstractContextManager[object]":
+        plain = time.time
+        return mock.patch("time.time", lambda: plain() + 3600 * hours)
+
+    def test_no_worker_is_taken_for_stuck(self) -> None:
+        sign = Sign(None)
+        self.addCleanup(sign.close)
+        for hours in (0, 1, -1):
+            with self.at(hours):
+                self.assertLess(abs(time.time() - sign.last_update()), 60)
+        with mock.patch("time.monotonic", return_value=time.monotonic() + 100):
+            self.assertGreater(time.time() - sign.last_update(), 60)
+            sign.notify()
+            self.assertLess(time.time() - sign.last_update(), 60)
+
+    def test_a_check_begins_soon(self) -> None:
+        settings = CollectionSettings("main", "Main", (self.put(SAMPLE),))
+        for first, then in ((0, -1), (1, 0), (-1, 0)):
+            with self.at(first):
+                openings = Openings((settings,), PROGRAM, 1 << 29)
+            self.addCleanup(openings.close)
+            time.sleep(2 * TICK)
+            with self.at(then), mock.patch.object(checking.Check, "is_done", return_value=True):
+                self.assertTrue(openings.advance())
 
 
 class Ends(Case):

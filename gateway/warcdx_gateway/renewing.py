@@ -38,21 +38,30 @@ class Opening:
         self.check: Optional[Check] = None
         stamp = self.generation.stamp
         self.unchecked = [n for n, identity in enumerate(stamp) if identity not in known]
-        # Of two writes within a tick of the clock the second one doesn't change the time.
+        # Of two writes within a tick of the clock the second one doesn't change the time. The clock may be set meanwhile.
         newest = max((stamp[n].changed / 1e9 for n in self.unchecked), default=0.0)
-        self.settled = min(newest, time.time()) + TICK
+        self._settled = time.monotonic() + min(max(newest + TICK - time.time(), 0.0), TICK)
+        self._is_done = False
+
+    @property
+    def may_begin(self) -> bool:
+        return bool(self.unchecked) and self.check is None and time.monotonic() >= self._settled
+
+    @property
+    def running(self) -> Optional[Check]:
+        """The check, while it goes on."""
+        return None if self._is_done else self.check
 
     def begin(self, program: str, memory: int) -> None:
-        """Starts a check if one is needed. Raises an Error of the package, or OSError."""
-        if self.unchecked:
-            names = self.generation.names
-            chosen = [[each[n] for n in self.unchecked] for each in (names, self._paths)]
-            self.check = Check(program, memory, *chosen)
+        """Starts the check. Raises an Error of the package, or OSError."""
+        names = self.generation.names
+        chosen = [[each[n] for n in self.unchecked] for each in (names, self._paths)]
+        self.check = Check(program, memory, *chosen)
 
     def is_done(self) -> bool:
         """Returns whether all files are in order. Raises NotInOrder, or NotChecked."""
         try:
-            is_done = self.check is None or self.check.is_done()
+            self._is_done = self._is_done or self.check is not None and self.check.is_done()
         except (NotInOrder, NotChecked) as error:
             self._expect_unchanged()
             if isinstance(error, NotInOrder):
@@ -60,7 +69,7 @@ class Opening:
                 error.files = {each[:2] for path, each in files if path in error.paths}
             raise
         self._expect_unchanged()
-        return is_done
+        return self._is_done or not self.unchecked
 
     def close(self, *, is_used: bool = False) -> None:
         """Ends the check, and closes the files unless they are used."""
@@ -83,12 +92,10 @@ class Openings:
     def __init__(self, collections: Iterable[CollectionSettings], program: str, memory: int, known: Container[Identity] = ()) -> None:
         self._program = program
         self._memory = memory
-        self._waiting: list[Opening] = []
-        self._running: list[Opening] = []
-        self._done: list[Opening] = []
+        self._openings: list[Opening] = []
         try:
             for each in collections:
-                self._waiting.append(Opening(each, known))
+                self._openings.append(Opening(each, known))
         except BaseException:
             self.close()
             raise
@@ -98,14 +105,10 @@ class Openings:
 
         Raises NotInOrder, another Error of the package, or OSError.
         """
-        now = time.time()
-        while self._waiting and len(self._running) < AT_A_TIME and self._waiting[0].settled <= now:
-            self._running.append(self._waiting.pop(0))
-            self._running[-1].begin(self._program, self._memory)
-        for opening in [each for each in self._running if each.is_done()]:
-            self._running.remove(opening)
-            self._done.append(opening)
-        return not self._waiting and not self._running
+        free = AT_A_TIME - len(self._running)
+        for opening in [each for each in self._openings if each.may_begin][:free]:
+            opening.begin(self._program, self._memory)
+        return all([opening.is_done() for opening in self._openings])
 
     def wait(self) -> None:
         """Goes on until all files are in order, and lets systemd know that the start goes on."""
@@ -115,23 +118,26 @@ class Openings:
                 told = time.monotonic()
                 gunicorn.systemd.sd_notify(MORE_TIME, logging.getLogger())
             poll = select.poll()
-            for opening in self._running:
-                if opening.check is not None:
-                    poll.register(opening.check.output, select.POLLIN)
+            for check in self._running:
+                poll.register(check.output, select.POLLIN)
             poll.poll(1000 * (TOLD if self._running else TICK))
 
     def taken(self) -> dict[str, Generation]:
         """Returns the files of each collection. They stay open when this is closed."""
-        generations = {each.name: each.generation for each in self._done}
-        for each in self._done:
+        for each in self._openings:
             each.close(is_used=True)
-        self._done.clear()
-        return generations
+        taken = {each.name: each.generation for each in self._openings}
+        self._openings.clear()
+        return taken
 
     def close(self) -> None:
         """Ends the checks, and closes the files."""
-        for opening in (*self._waiting, *self._running, *self._done):
+        for opening in self._openings:
             opening.close()
+
+    @property
+    def _running(self) -> list[Check]:
+        return [check for each in self._openings if (check := each.running) is not None]
 
 
 class Renewal:

@@ -40,13 +40,18 @@ class Sign:
     def __init__(self, config: Any) -> None:
         self._file = os.memfd_create("worker")
         self._mode = 0
+        self._seen = (0.0, 0.0)  # the time of the file, and when the master has found it, by a clock that nobody sets
 
     def notify(self) -> None:
         self._mode ^= 1
         os.fchmod(self._file, self._mode)
 
     def last_update(self) -> float:
-        return os.fstat(self._file).st_ctime
+        """Returns the time in seconds since 1970, as gunicorn compares it. It moves with a clock that is set."""
+        changed = os.fstat(self._file).st_ctime
+        if changed != self._seen[0]:
+            self._seen = changed, time.monotonic()
+        return time.time() - (time.monotonic() - self._seen[1])
 
     def fileno(self) -> int:
         return self._file
