@@ -150,7 +150,7 @@ class Gateway:
         source, headers = Source(collection), collection.validators()
         if is_unchanged(request, headers):
             source.check()  # a query that is refused has no 304
-            collection.index.text(plan.plain_query(plan.resume_key, 1))
+            collection.index.text(plan.first_query)
             collection.expect_unchanged()
             return Response(status=304, headers=headers)
 

@@ -170,6 +170,14 @@ class Plan:
         """Whether the answer is an array of rows, which is empty without captures."""
         return self.output is Output.JSON and not self.counts_pages
 
+    @property
+    def first_query(self) -> str:
+        """The query for the first capture of the answer, at most: the program refuses it as it does the whole."""
+        if self.is_plain:
+            return self.plain_query(self.resume_key, 1)
+        key = "" if self.resume_key is None else f"&resumeKey={self.resume_key}"
+        return f"{self.selected}{key}&limit=1"
+
     def plain_query(self, resume_key: Optional[str], limit: Optional[int]) -> str:
         """Returns the query whose page is the answer."""
         pieces = [self.text]
