@@ -124,7 +124,7 @@ class Fetching(Case):
         ):
             self.assertEqual((1, b"", f"warcdx-fetch: {wanted}\n"), self.fetch(*words), words)
         os.remove(self.archive)
-        why = "cannot open (No such file or directory); --archives FOLDER names the folder of the archives"
+        why = "cannot open (No such file or directory); --archives FOLDER names the folder below which it has this path"
         self.assertEqual((3, b"", f"warcdx-fetch: {self.folder}/a.warc: {why}\n"), self.fetch(URL))
 
     def test_variables_of_the_environment(self) -> None:

@@ -116,6 +116,7 @@ class Messages(Runs):
     def test_a_file_of_another_kind(self) -> None:
         for name, text in (
             ("a.wacz", b"PK\x03\x04" + bytes(100)), ("a.html", b"<!doctype html><p>x"), ("a.warc", (SAMPLES / "response.warc").read_bytes()),
+            ("a.cdx", b" CDX N b a m s k r M S V g\n" + b"".join(b"a%06d 20160101000000 http://a/ - - - - - - 0 a\n" % n for n in range(1000))),
             ("a.cdx.gz", gzip.compress(b"x", mtime=0)), ("a.warc.gz", gzip.compress((SAMPLES / "wget.warc").read_bytes(), mtime=0)),
         ):  # fmt: skip
             (self.folder / name).write_bytes(text)
@@ -129,6 +130,7 @@ class Messages(Runs):
             (("cdx", "from", "a.cdx.gz"), "a.cdx.gz: It is compressed by gzip: "),
             (("cdx", "from", index), f"{index}: It is an index: warcdx-cdx to reads indexes."),
             (("fetch", "--index", "a.warc", "http://example.com/"), "a.warc: BadLine 0: It is a WARC file: "),
+            (("fetch", "--index", "a.cdx", "--all", "-o", "new", "key=a000900"), ": It is a CDX file: "),
         ):  # fmt: skip
             status, _, said = self.run_on_program(*words)
             self.assertEqual(1, status, words)
@@ -140,7 +142,8 @@ class Messages(Runs):
             (("verify", "nosuch"), "nosuch: cannot open (No such file or directory)"),
             (("verify", "."), ".: cannot open (Is a directory); name the archives in it"),
             (("cdx", "to", "."), ".: cannot open (Is a directory)"),
-            (("fetch", "--index", index, "http://example.com/0000000"), "; --archives FOLDER names the folder of the archives"),
+            (("fetch", "--index", index, "http://example.com/0000000"), "; --archives FOLDER names the folder below which it has this path"),
+            (("fetch", "--index", ".", "http://example.com/"), ".: cannot open (Is a directory); a folder is an index if warcdx-update has made it"),
         ):
             status, _, said = self.run_on_program(*words)
             self.assertEqual((3, 1), (status, said.count("\n")), words)
@@ -148,6 +151,17 @@ class Messages(Runs):
         command = (sys.executable, PYTHON / "bin/warcdx-verify", "--program", "nosuch", index)
         said = "warcdx-verify: nosuch: no such program on the PATH; --program PROGRAM names another one\n"
         self.assertEqual((3, "", said), self.run_command(*command))
+
+    def test_an_index_without_its_option(self) -> None:
+        status, found, said = self.run_on_program("fetch", "http://example.com/", "a.cdxj")
+        self.assertEqual((2, ""), (status, found))
+        self.assertIn("give one URL; an index follows --index", said)
+
+    def test_a_parameter_that_the_command_gives(self) -> None:
+        index = self.put(lines(1), "a.cdxj")
+        status, found, said = self.run_on_program("fetch", "--index", index, "--all", "-o", "new", "url=example.com/*&output=json")
+        self.assertEqual((1, ""), (status, found))
+        self.assertIn("RepeatedParameter in output: warcdx-fetch gives output, fl and showResumeKey itself", said)
 
     def test_several_archives_for_one_folder(self) -> None:
         status, found, said = self.run_on_program("update", "a.warc", "b.warc", "all.cdxj")

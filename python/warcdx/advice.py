@@ -1,4 +1,4 @@
-"""What the program says of a file that is at fault at its start. So each such text stands in the program alone."""
+"""What the program says of a file that is at fault. So each such text stands in the program alone."""
 import os
 import subprocess
 
@@ -7,12 +7,15 @@ from .faults import BadLine, OutOfOrder
 from .program import Path, find_packed_program, operand
 from .reported import advice_in
 
+_MOST = 16 << 20  # bytes of an index that are read to say what is at fault
+
 
 def advice_on(fault: Fault, path: Path, program: str) -> str:
     """Returns what a fault means and what to do, or an empty text if the program doesn't say. `path` leads to its file."""
-    if fault.advice or fault.offset != 0:
+    is_of_index = isinstance(fault, (BadLine, OutOfOrder))  # a query may look behind the first line at fault
+    if fault.advice or fault.offset is None or fault.offset > (_MOST if is_of_index else 0):
         return fault.advice
-    words = ("check",) if isinstance(fault, (BadLine, OutOfOrder)) else ("get", "0")
+    words = ("check",) if is_of_index else ("get", "0")
     return _said(program, *words, operand(path))[1]
 
 

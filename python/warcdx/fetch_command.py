@@ -34,6 +34,7 @@ Exit status:
   3  a file can't be opened, or reading, writing, memory or the program failed
 """
 import argparse
+import errno
 import functools
 import itertools
 import json
@@ -55,6 +56,7 @@ from .outputs import STANDARD, check_that_it_is_new, new_file, output_of
 from .program import operands
 from .query import Capture
 from .record import RecordStream, Unreadable
+from .refusals import RepeatedParameter
 
 NAME = "warcdx-fetch"
 ARCHIVE = ".warc.gz"
@@ -78,7 +80,10 @@ def read_arguments(arguments: Optional[Sequence[str]]) -> argparse.Namespace:
     parser.add_output("FILE", "the new file, or with --all the new folder or archive")
     add("--program", default="warcdx", metavar="PROGRAM", help="the program (%(default)s); warcdx-gz is beside it, or of the PATH")
     add("query", metavar="URL", help="what to write; with --all a query too")
+    add("more", nargs="*", default=(), help=argparse.SUPPRESS)
     given = parser.parse(arguments)
+    if given.more:
+        parser.error("give one URL; an index follows --index, and a folder of archives --archives")
     given.index = given.index or list(filter(None, [os.environ.get("WARCDX_INDEX")]))
     if not given.index:
         parser.error("give --index INDEX, an index of the archives, as 'warcdx index' writes it")
@@ -212,8 +217,13 @@ def reason_of(error: Error) -> str:
 def line_about(fault: Fault, given: argparse.Namespace) -> str:
     """Returns what is said of a fault that ends the command."""
     advice = "" if fault.file is None else advice_on(fault, fault.file, given.program)
-    is_archive = isinstance(fault, CannotOpen) and fault.file not in operands(given.index)
-    return line_of(fault, advice) + ("; --archives FOLDER names the folder of the archives" if is_archive else "")
+    if not isinstance(fault, CannotOpen):
+        hint = ""
+    elif fault.file not in operands(given.index):
+        hint = "; --archives FOLDER names the folder below which it has this path"
+    else:
+        hint = "; a folder is an index if warcdx-update has made it" if fault.system_error == errno.EISDIR else ""
+    return line_of(fault, advice) + hint
 
 
 def refusal_of(refused: Refused, given: argparse.Namespace) -> str:
@@ -221,6 +231,8 @@ def refusal_of(refused: Refused, given: argparse.Namespace) -> str:
     place = "" if refused.parameter is None else f" in {printable(refused.parameter)}"
     is_text = _PARAMETERS.match(given.query) is not None
     why = advice_on_query(given.query, given.program) if is_text else refused.advice
+    if not why and isinstance(refused, RepeatedParameter):  # so it isn't there twice
+        why = f"{NAME} gives output, fl and showResumeKey itself"
     return f"the query is refused: {refused.name}{place}" + (f": {why}" if why else " (see docs/QUERY.md)")
 
 

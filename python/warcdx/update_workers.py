@@ -127,7 +127,10 @@ class Cluster(contextlib.ExitStack):
             raise CannotUpdate("the module distributed is missing (Debian's package python3-distributed)") from None
         logging.disable()  # what Dask logs of a lost worker isn't for the user
         cloudpickle.register_pickle_by_value(update_tasks)
-        client = self.enter_context(distributed.Client(self._address))
+        try:
+            client = self.enter_context(distributed.Client(self._address))
+        except ValueError as error:  # it isn't an address
+            raise CannotUpdate(f"{error}; an ADDRESS is HOST:PORT, as the scheduler prints it") from None
         executor = self.enter_context(client.get_executor(pure=False))
         self.push(lambda kind, *_: executor.shutdown(wait=kind is None))
         return executor

@@ -140,6 +140,9 @@ def a_scheduler_that_is_not_there_is_reported(program: pathlib.Path, folder: pat
     expect("status", trial.run("--scheduler", "tcp://127.0.0.1:1"), 3)
     expect("lines", len(trial.said), 1)
     expect("index", trial.index.exists(), False)
+    for address in ("127.0.0.1", "nosuch://127.0.0.1:1"):
+        expect("status", trial.run("--scheduler", address), 3)
+        expect("lines", (len(trial.said), "an ADDRESS is HOST:PORT" in str(trial.said)), (1, True))
     copy_sample("response", trial.archives / "new.warc")
     expect("status without a scheduler", trial.run(), 1)
     trial.expect_results({"07.warc": 1}, trial.index_of("*.warc"))
