@@ -6,8 +6,8 @@ usage: check_scripts.py [KIND]..
 A KIND is one of these; without one all three are checked:
 
 shell   `shellcheck` finds nothing in the shell scripts. Needs Debian's package shellcheck
-python  the Python scripts compile without warnings, and say which time a member of gzip has, since a test whose bytes have
-        the time of its run may fail by chance
+python  the Python scripts compile without warnings, and say which time a member of gzip has, so that no test depends on the time
+        of its run
 usage   each script that can be run prints its usage for -h with exit status 0, and ends with 2 after an unknown option, or with 77 if a
         package that it needs is missing
 

@@ -150,6 +150,7 @@ row "\`something else has removed\`"
 
 row "\`is large, and each update writes all of it\`, \`.d is the same index, and costs only what is new\`"
 row "\`the archives of runs have N captures, and the runs M, or these were changed\`"
+row "\`an ADDRESS is HOST:PORT, as the scheduler prints it\`"
 row "\`the module distributed is missing (Debian's package python3-distributed)\`, \`Python's package surt is missing\`"
 
 body() { # FILE: the body of the record
