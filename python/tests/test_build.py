@@ -8,6 +8,7 @@ import pathlib
 import subprocess
 import sys
 import tarfile
+import tempfile
 import unittest
 import zipfile
 
@@ -94,7 +95,10 @@ class Build(Case):
 
     @unittest.skipUnless(HAS_VENV, "ensurepip is missing (Debian's package python3-venv)")
     def test_pip_needs_no_network(self) -> None:
-        environment = self.folder / "environment"
+        # pip writes the path into the first lines of the commands, where a blank would end it.
+        folder = tempfile.TemporaryDirectory(dir="/tmp")
+        self.addCleanup(folder.cleanup)
+        environment = pathlib.Path(folder.name)
         subprocess.run((sys.executable, "-m", "venv", environment), check=True)
         show = "import warcdx; print(warcdx.__version__, warcdx.__file__)"
         for options, place in (((), environment), (("--editable",), PYTHON)):

@@ -180,7 +180,8 @@ class StoreTest(unittest.TestCase):
     def test_a_first_run_that_fails_leaves_nothing_but_a_folder_that_was_there(self) -> None:
         for is_there in (False, True):
             if is_there:
-                self.folder.mkdir(mode=0o750)
+                self.folder.mkdir()
+                self.folder.chmod(0o750)
             with self.subTest(is_there=is_there), self.assertRaises(CannotUpdate), self.store.locked(self.settings):
                 raise CannotUpdate
             self.assertEqual(list(self.folder.parent.rglob("*")), [self.folder] * is_there)
