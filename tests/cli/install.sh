@@ -27,7 +27,7 @@ listed='0 264 response'
 run_blocks() { # START..: runs these blocks of the page in one shell, in the folder of the release
     local start
     for start in "$@"; do block_of "$page" "$start"; done |
-        sed "s:sudo ::; s:/usr/local:$work/local:g" | run_block "$release" HOME="$home" bash -e
+        sed "s:sudo ::; s:/usr/local:'$work'/local:g" | run_block "$release" HOME="$home" bash -e
 }
 
 files_of() { # FOLDER
