@@ -23,7 +23,7 @@ zstyle ':completion:*' insert-tab false
 unsetopt beep
 END
 zpty shell "zsh -f -i"
-zpty -w shell "PROMPT=; fpath=(${(q)1} \$fpath); source $setup; print REA''DY"
+zpty -w shell "PROMPT=; fpath=(${(q)1} \$fpath); source ${(q)setup}; print REA''DY"
 zpty -r -m shell seen '*READY*'
 zpty -w -n shell "$2"$'\t'
 zpty -r -m shell seen '*ENDED*'
