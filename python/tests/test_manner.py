@@ -168,6 +168,13 @@ class Messages(Runs):
         self.assertEqual((2, ""), (status, found))
         self.assertIn("give one FOLDER, whose archives are found, and one INDEX", said)
 
+    def test_an_archive_for_a_folder(self) -> None:
+        (self.folder / "a.warc").touch()
+        status, found, said = self.run_on_program("update", "a.warc", "all.cdxj.d")
+        self.assertEqual((3, "", 1), (status, found, said.count("\n")))
+        self.assertIn("a.warc is a file; FOLDER is the folder that has the archives", said)
+        self.assertFalse((self.folder / "all.cdxj.d").exists())
+
     def run_on_program(self, name: str, *words: object) -> "tuple[int, str, str]":
         return self.run_command(sys.executable, PYTHON / f"bin/warcdx-{name}", "--program", os.path.abspath(PROGRAM), *words)
 

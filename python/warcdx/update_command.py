@@ -149,7 +149,9 @@ def update(given: argparse.Namespace, output: BinaryIO) -> int:
 
 
 def expect_usable(settings: Settings, store: Store) -> None:
-    """Raises CannotUpdate if the archives are in the folder of the index, or it is among them."""
+    """Raises CannotUpdate if FOLDER is a file, the archives are in the folder of the index, or it is among them."""
+    if os.path.isfile(settings.folder):
+        raise CannotUpdate(f"{settings.folder} is a file; FOLDER is the folder that has the archives")
     if is_in(settings.folder, store.folder):
         raise CannotUpdate(f"the folder of archives is in the folder of the index, {store.folder}")
     if settings.recursive and is_in(store.folder, settings.folder):

@@ -95,6 +95,8 @@ shows "another folder" "it is the index of another folder," update leaving locke
 shows "another option" "it was made without --recursive" update --recursive folder locked
 shows "other types" "it was made with --types response,resource,revisit" update --types metadata folder locked
 
+row "\`is a file; FOLDER is the folder that has the archives\`"
+shows "an archive" "is a file; FOLDER is the folder that has the archives" update wget.warc locked
 row "\`the folder of archives is in the folder of the index,\`, \`with --recursive, the folder of the index,\`"
 shows "archives in the index" "the folder of archives is in the folder of the index," update locked.d locked
 shows "the index in the archives" "with --recursive, the folder of the index," update --recursive folder folder/all.cdxj
