@@ -8,7 +8,7 @@ from urllib.parse import urlencode
 from . import browse_support as support
 from .browse_support import Archives, page, record, response, revisit, text_of
 
-from warcdx_gateway.browse import fitting
+from warcdx import fitting
 from warcdx_gateway.rules import Rule, Rules, plain_digest
 
 HOME = "http://example.com/"

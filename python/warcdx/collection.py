@@ -6,6 +6,7 @@ from typing import Any, Optional, Union
 
 from .archive import Archive, expect_file, open_archive
 from .errors import NoArchive, expect_type
+from .fitting import fitting_record, fitting_stream
 from .index import Index
 from .program import Path, find_program, operands
 from .query import Capture, Texts
@@ -89,13 +90,14 @@ class Collection:
 
         Nothing of a plain archive before the record is read, unless the capture has no length, and of a
         compressed one only its member. Raises NoArchive if no archive has the name of the capture's,
-        `faults.CannotOpen` if it can't be opened, and `faults.NoRecord` if the record isn't there.
+        `faults.CannotOpen` if it can't be opened, `faults.NoRecord` if the record isn't there, and `faults.OtherRecord` if
+        one of another URL or time is, as after the archive was replaced.
         """
-        return self._archive_of(capture).record(capture.offset, length=capture.length)
+        return fitting_record(self._archive_of(capture), capture, self._program)
 
     def stream(self, capture: Capture) -> contextlib.AbstractContextManager[RecordStream]:
         """Opens the record of a capture, to be read in pieces as by `Archive.stream`. Raises as `record` does."""
-        return self._archive_of(capture).stream(capture.offset, length=capture.length)
+        return fitting_stream(self._archive_of(capture), capture, self._program)
 
     def _archive_of(self, capture: Capture) -> Archive:
         if not hasattr(capture, "filename"):

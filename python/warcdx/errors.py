@@ -69,8 +69,10 @@ def expect_type(name: str, value: object, kinds: Union[type, tuple[type, ...]], 
 
 def number_of(name: str, value: SupportsIndex) -> int:
     """Returns a number that is given under this name, which may be one of numpy. Raises TypeError as `expect_type` does."""
-    expect_type(name, value, SupportsIndex, "a number")
-    return operator.index(value)
+    try:
+        return operator.index(value)
+    except TypeError:
+        raise TypeError(f"{name} is a number, and not {value!r:.60}") from None
 
 
 class Refused(Error):

@@ -62,6 +62,15 @@ class NoRecord(Fault):
     """No record begins at the offset."""
 
 
+class OtherRecord(Fault):
+    """The record at the offset has another URL or time than the line of the index. The program doesn't know this cause."""
+
+    advice = "it isn't the record of the index line; if the archive was replaced, index it anew"
+
+    def __str__(self) -> str:
+        return f"{super().__str__()} ({self.advice})"
+
+
 class BadName(Fault):
     """The file name of the archive is empty or too long."""
 

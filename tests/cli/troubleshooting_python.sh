@@ -41,6 +41,10 @@ row "\`no index has a capture of it\`"
 "$program" index "$root/samples/response.warc" > response.cdxj
 shows "no capture" "no index has a capture of it" run_python fetch --program "$program" --index response.cdxj http://example.com/none
 row "\`it is a revisit, and no index has its original\`"
+row "\`OtherRecord\`"
+sed 's/2016-09-19T/2016-09-20T/' "$root/samples/response.warc" > response.warc
+shows "an archive that was replaced" "OtherRecord 0: it isn't the record of the index line" run_python fetch --program "$program" --index response.cdxj http://example.com/
+cp "$root/samples/response.warc" .
 row "\`it is there, and isn't replaced\`"
 : > there
 shows "a file" "it is there, and isn't replaced" run_python fetch --program "$program" --index response.cdxj --archives "$root/samples" -o there http://example.com/

@@ -9,6 +9,7 @@ from typing import Optional
 from warcdx import Capture, Error, Fault, ReplyTooLate, Unreadable, faults, open_archive
 from warcdx.codings import Limits
 from warcdx.collection import find_archive
+from warcdx.fitting import fitting_stream
 from warcdx.http_messages import HttpHead
 from warcdx.record import Head, RecordStream
 from warcdx.record_digests import BlockCheck, Verdicts
@@ -17,7 +18,6 @@ from ..collection import Collection
 from ..generation import Identity
 from ..rules import Action
 from ..work import Work
-from .fitting import expect_fitting
 from .searching import NotShown
 
 MOST_SHOWN = 4 << 20  # bytes of a payload that are shown
@@ -117,10 +117,12 @@ def opened(collection: Collection, capture: Capture) -> Iterator[RecordStream]:
         )
     try:
         archive, seconds = open_archive(path, program=collection.program), work.seconds(SILENCE)
-        with archive.stream(capture.offset, length=capture.length, seconds=seconds) as record:
-            expect_fitting(collection.program, record.head, capture)
+        with fitting_stream(archive, capture, collection.program, seconds) as record:
             _expect_allowed(collection, capture, record.head.field("WARC-Payload-Digest") or "")
             yield record
+    except faults.OtherRecord:
+        why = "The record at this offset has another URL or time than the line of the index says. The index has to be made anew."
+        raise NotShown("The index doesn't fit the archive.", why, 502) from None
     except faults.NoRecord:
         raise NotShown("There is no record here.", "No record of the archive begins at this offset and has this length.", 404) from None
     except (Fault, ReplyTooLate, Unreadable) as error:
