@@ -25,7 +25,7 @@ from program import ROOT, add_program, find_program, parser_of
 sys.path.insert(0, str(ROOT / "python"))
 
 from warcdx import Index
-from warcdx.update_merges import Merging
+from warcdx.update import Merging
 
 NIGHTS = 1000
 RATIO = 8

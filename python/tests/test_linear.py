@@ -15,7 +15,7 @@ from warcdx.codings import Unreadable
 from warcdx.reported import error_of
 from warcdx.http_messages import HttpHead, Message
 from warcdx.record import Head, Record, payload
-from warcdx.reply import refusal_of, text_of
+from warcdx.serve import refusal_of, text_of
 from warcdx.url_keys import _LINE
 
 SIZE = 1_000_000  # bytes of an input

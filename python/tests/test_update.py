@@ -20,7 +20,7 @@ from warcdx import update_tasks
 from warcdx.ending import Ended
 from warcdx.states import MOST_RUNS
 from warcdx.update_archives import Found, FoundArchive, Passed
-from warcdx.update_merges import Merging, batches_of
+from warcdx.update import Merging, batches_of
 from warcdx.update_reports import damage_of
 from warcdx.update_tasks import Failed, _causes_of, _Lines, _text_of, _whole_lines, add_hosts, index_archives, merge_runs
 from warcdx.update_workers import Threads
@@ -289,6 +289,11 @@ class ThreadsTest(unittest.TestCase):
                 self.assertEqual(Threads(1)._front, front)
 
     def test_no_task_goes_on_after_a_signal(self) -> None:
+        def end(number: int, frame: object) -> None:
+            signal.signal(number, signal.SIG_IGN)
+            raise Ended(number)
+
+        self.addCleanup(signal.signal, signal.SIGTERM, signal.getsignal(signal.SIGTERM))
         start = threading.Thread.start
         for before, after in ((0.1, 0.0), (0.0, 0.0), (0.0, 0.1)):
             done = list[str]()
@@ -308,10 +313,11 @@ class ThreadsTest(unittest.TestCase):
                 setattr(thread, "run", run_later)
                 start(thread)
                 time.sleep(after)
-                raise Ended(signal.SIGTERM)
+                os.kill(os.getpid(), signal.SIGTERM)
 
             with mock.patch.object(threading.Thread, "start", start_and_end), self.assertRaises(Ended):
                 with Threads(2) as workers:
+                    signal.signal(signal.SIGTERM, end)
                     list(workers.run(task, [(), ()]))
             at_the_end = list(done)
             time.sleep(0.5)

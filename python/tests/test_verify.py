@@ -16,7 +16,7 @@ import unittest
 from typing import Any, Optional
 
 from warcdx import Archive
-from warcdx.digests import Digest
+from warcdx.record_digests import Digest
 from warcdx.record import CLOSING, Head
 from warcdx.record_digests import BlockCheck
 

@@ -7,11 +7,10 @@ import weakref
 from collections.abc import Callable, Iterable, Iterator, Sequence
 from typing import Any, NoReturn, Optional, Union
 
-from .asked import Asked
+from .asked import Asked, parameter_of
 from .errors import Refused, expect_type, number_of
 from .faults import Read, cannot_open
 from .fields import FIELDS
-from .parameters import parameter_of
 from .program import Path, find_program, operands
 from .query import MOST_LIMIT, Capture, Page, Query, RowPage, Texts, Value, fits, in_bytes, length_of, one_line, rows_query, split_rows
 from .reported import refused
@@ -79,8 +78,9 @@ class Index:
         if not names:
             raise ValueError("no index is given")
         found = find_program(program)
-        self._files = _open_files(names)
-        self._close_files = weakref.finalize(self, _close, self._files.descriptors)
+        with contextlib.ExitStack() as stack:
+            self._files = _open_files(names, stack)
+            self._close_files = weakref.finalize(self, stack.pop_all().close)
         self.seconds = seconds
         self.most = most
         self.waits: Callable[[], None] = lambda: None  # is called while a reply is waited for, if `seconds` is given
@@ -321,26 +321,23 @@ def _line_of(query: str) -> bytes:
     return in_bytes(one_line(query))
 
 
-def _open_files(indexes: Sequence[str]) -> Files:
+def _open_files(indexes: Sequence[str], stack: contextlib.ExitStack) -> Files:
     """Opens the files of indexes. Those of a folder stay open, because updates remove them. Raises `faults.CannotOpen`."""
     names: list[str] = []
     operands: list[str] = []
     descriptors: list[int] = []
-    try:
-        for index in indexes:
-            is_folder = os.path.isdir(index)
-            for path in runs_of(index) if is_folder else [index]:
-                names.append(path)
-                descriptor = _open(names[-1])
-                if is_folder:
-                    descriptors.append(descriptor)
-                    operands.append(f"/dev/fd/{descriptor}")
-                else:
-                    os.close(descriptor)
-                    operands.append(names[-1])
-    except BaseException:
-        _close(descriptors)
-        raise
+    for index in indexes:
+        is_folder = os.path.isdir(index)
+        for path in runs_of(index) if is_folder else [index]:
+            names.append(path)
+            descriptor = _open(path)
+            if is_folder:
+                stack.callback(os.close, descriptor)
+                descriptors.append(descriptor)
+                operands.append(f"/dev/fd/{descriptor}")
+            else:
+                os.close(descriptor)
+                operands.append(path)
     return Files(tuple(names), tuple(operands), tuple(descriptors))
 
 
@@ -355,8 +352,3 @@ def _open(path: str) -> int:
         fault.advice = "An index is a file, because it is searched: write what a pipe has to a file first."
         raise fault
     return descriptor
-
-
-def _close(descriptors: Sequence[int]) -> None:
-    for descriptor in descriptors:
-        os.close(descriptor)

@@ -49,8 +49,7 @@ from .errors import Error
 from .files import is_in
 from .program import PACKED, find_packed_program
 from .progress import Lines, Silent, bar_on_terminal
-from .update import Removal, Update
-from .update_merges import Merging
+from .update import Merging, Removal, Update
 from .update_outputs import Single
 from .update_reports import Action, Outcome, Report, Said
 from .update_store import Store

@@ -3,14 +3,15 @@ import contextlib
 import errno
 import functools
 import os
-import queue
 import shutil
+import signal
 import subprocess
 import threading
 from collections.abc import Callable, Iterator, Sequence
-from typing import Any, Union
+from typing import Any
 
 from . import update_tasks
+from .ending import blocked
 from .update_tables import CannotUpdate
 from .update_tasks import Failed
 
@@ -29,59 +30,54 @@ def _runs(*command: str) -> bool:
         return False
 
 
-class Threads:
+class Workers(contextlib.ExitStack):
+    """Run tasks by an executor as of the module concurrent.futures, which ends with the block."""
+
+    _executor: Any
+    _words: dict[str, Any] = {}  # are given to each task
+
+    def run(self, task: Task, arguments: Sequence[tuple[Any, ...]]) -> Outcomes:
+        """Runs a task once with each of these arguments."""
+        from concurrent.futures import CancelledError, Future, as_completed
+
+        futures: dict[Future[Any], int] = {}
+        try:
+            for number, each in enumerate(arguments):
+                with blocked():  # so that the executor knows of each thread that it starts
+                    futures[self._executor.submit(task, *each, **self._words)] = number
+        except RuntimeError as error:  # there is no memory for a thread, or the cluster is gone
+            raise CannotUpdate(str(error)) from None
+        for future in as_completed(list(futures)):
+            try:
+                outcome = future.result()
+            except (CancelledError, Exception) as error:
+                outcome = error
+            yield futures.pop(future), outcome
+
+
+class Threads(Workers):
     """Threads of this process, each of which runs one program at a time. The programs end with it, also if it is killed."""
 
     def __init__(self, jobs: int) -> None:
-        self._jobs = jobs
+        from concurrent.futures import ThreadPoolExecutor
+
+        super().__init__()
         # A function that subprocess calls in the new process would do the same, but makes a start slower the more memory this process has.
         self._front = _ENDING_WITH_STARTER if _runs(*_ENDING_WITH_STARTER, "true") else ()
-        self._lock = threading.Condition()
+        self._lock = threading.Lock()
         self._running: set[subprocess.Popen[bytes]] = set()
-        self._working = 0  # threads
         self._is_ended = False
+        self._words = {"start": self._start}
+        self._executor = ThreadPoolExecutor(jobs, "", signal.pthread_sigmask, (signal.SIG_SETMASK, ()))  # which its programs have then
+        self.callback(self._end)
 
-    def __enter__(self) -> "Threads":
-        return self
-
-    def __exit__(self, *error: object) -> None:
-        """Ends the programs that run, refuses others, and waits for the threads.
-
-        A thread that a signal has kept from being known here begins nothing any more, or is waited for.
-        """
+    def _end(self) -> None:
+        """Ends the programs that run, refuses others, and waits for the threads."""
         with self._lock:
             self._is_ended = True
             for process in self._running:
                 process.kill()
-            self._lock.wait_for(lambda: not self._working)
-
-    def run(self, task: Task, arguments: Sequence[tuple[Any, ...]]) -> Outcomes:
-        """Runs a task once with each of these arguments."""
-        waiting, outcomes = iter(list(enumerate(arguments))), queue.SimpleQueue[tuple[int, Any]]()
-        for _ in arguments[: self._jobs]:
-            try:
-                threading.Thread(target=self._work, args=(task, waiting, outcomes)).start()
-            except RuntimeError as error:
-                raise CannotUpdate(str(error)) from None
-        for _ in arguments:
-            yield outcomes.get()
-
-    def _work(self, task: Task, waiting: Iterator[tuple[int, Any]], outcomes: "queue.SimpleQueue[tuple[int, Any]]") -> None:
-        with self._lock:
-            if self._is_ended:
-                return
-            self._working += 1
-        try:
-            for number, each in waiting:
-                try:
-                    outcome = task(*each, start=self._start)
-                except BaseException as error:
-                    outcome = error
-                outcomes.put((number, outcome))
-        finally:
-            with self._lock:
-                self._working -= 1
-                self._lock.notify_all()
+        self._executor.shutdown(cancel_futures=True)
 
     def _start(self, command: Sequence[str], **options: Any) -> "subprocess.Popen[bytes]":
         if shutil.which(command[0]) is None:
@@ -94,27 +90,12 @@ class Threads:
             return process
 
 
-class Cluster(contextlib.ExitStack):
+class Cluster(Workers):
     """The workers of a Dask cluster, which are sent the functions of the tasks. The first task opens them."""
 
     def __init__(self, address: str) -> None:
         super().__init__()
         self._address = address
-
-    def run(self, task: Task, arguments: Sequence[tuple[Any, ...]]) -> Outcomes:
-        """Runs a task once with each of these arguments."""
-        from concurrent.futures import CancelledError, as_completed
-
-        try:
-            futures = {self._executor.submit(task, *each): number for number, each in enumerate(arguments)}
-        except RuntimeError as error:  # the cluster is gone
-            raise CannotUpdate(str(error)) from None
-        for future in as_completed(list(futures)):
-            try:
-                outcome = future.result()
-            except (CancelledError, Exception) as error:
-                outcome = error
-            yield futures.pop(future), outcome
 
     @functools.cached_property
     def _executor(self) -> Any:
@@ -134,6 +115,3 @@ class Cluster(contextlib.ExitStack):
         executor = self.enter_context(client.get_executor(pure=False))
         self.push(lambda kind, *_: executor.shutdown(wait=kind is None))
         return executor
-
-
-Workers = Union[Threads, Cluster]

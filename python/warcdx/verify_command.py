@@ -43,7 +43,7 @@ import json
 import os
 from collections import Counter
 from collections.abc import Sequence
-from typing import BinaryIO, NamedTuple, Optional, Union
+from typing import BinaryIO, Optional
 
 from .advice import advice_on
 from .archive import Archive, open_archive
@@ -82,48 +82,27 @@ def read_arguments(arguments: Optional[Sequence[str]]) -> argparse.Namespace:
     return given
 
 
-class Text:
-    """The lines about an archive as they are read: below a heading, or each with the name of the archive before it."""
+class Style:
+    """How what was found of an archive is printed: below a heading, each line with its name, or as objects of JSON."""
 
-    def __init__(self, archive: str, is_quiet: bool, is_alone: bool) -> None:
-        self.heading = b"" if is_quiet or is_alone else os.fsencode(f"{archive}:\n")
-        self._name = os.fsencode(f"{printable(archive)}: ") if is_quiet else b""
-
-    def record(self, found: Checked) -> bytes:
-        return self._name + f"{found.offset} {found.block.value} {found.payload.value}\n".encode()
-
-    def fault(self, offset: int, cause: str) -> bytes:
-        return self._name + f"fault {offset} {cause}\n".encode()
-
-
-class Json:
-    """The lines about an archive as objects of JSON."""
-
-    heading = b""
-
-    def __init__(self, archive: str) -> None:
-        self._archive = archive
+    def __init__(self, archive: str, given: argparse.Namespace) -> None:
+        self.is_quiet = given.quiet
+        self._json = archive if given.json else None
+        has_heading = not given.json and not given.quiet and len(given.files) > 1
+        self.heading = os.fsencode(f"{archive}:\n") if has_heading else b""
+        self._name = os.fsencode(f"{printable(archive)}: ") if given.quiet else b""
 
     def record(self, found: Checked) -> bytes:
-        return self._line(offset=found.offset, block=found.block.value, payload=found.payload.value)
+        block, payload = found.block.value, found.payload.value
+        return self._line(f"{found.offset} {block} {payload}", offset=found.offset, block=block, payload=payload)
 
     def fault(self, offset: int, cause: str) -> bytes:
-        return self._line(offset=offset, fault=cause)
+        return self._line(f"fault {offset} {cause}", offset=offset, fault=cause)
 
-    def _line(self, **members: "int | str") -> bytes:
-        return json.dumps({"archive": self._archive, **members}).encode() + b"\n"
-
-
-class Style(NamedTuple):
-    """How what was found of an archive is printed, and whether only faults are."""
-
-    lines: Union[Text, Json]
-    is_quiet: bool
-
-    @classmethod
-    def of(cls, archive: str, given: argparse.Namespace) -> "Style":
-        is_alone = len(given.files) == 1
-        return cls(Json(archive) if given.json else Text(archive, given.quiet, is_alone), given.quiet)
+    def _line(self, text: str, **members: "int | str") -> bytes:
+        if self._json is not None:
+            return json.dumps({"archive": self._json, **members}).encode() + b"\n"
+        return self._name + f"{text}\n".encode()
 
 
 def check(file: str, program: str, style: Style, output: BinaryIO) -> int:
@@ -131,7 +110,7 @@ def check(file: str, program: str, style: Style, output: BinaryIO) -> int:
     try:
         with read_again(file, is_held=True) as path:
             archive = open_archive(path, program=program)
-            output.write(style.lines.heading)
+            output.write(style.heading)
             return print_archive(file, archive, program, style, output)
     except Fault as error:
         error.file = error.file and file  # and not that of a copy
@@ -147,7 +126,7 @@ def print_archive(file: str, archive: Archive, program: str, style: Style, outpu
     except Fault as error:
         if error.offset is None:
             raise
-        output.write(style.lines.fault(error.offset, error.name))
+        output.write(style.fault(error.offset, error.name))
         status, advice = status_of(error), advice_on(error, archive.path, program)
     if not any(verdict.is_compared for verdict in found):
         report(NAME, f"{printable(file)}: {advice or 'no digest was compared'}")
@@ -162,7 +141,7 @@ def print_records(archive: Archive, style: Style, output: BinaryIO, found: set[V
             verdicts = {record.block, record.payload}
             found |= verdicts
             if Verdict.DIFFERS in verdicts or not style.is_quiet:
-                output.write(style.lines.record(record))
+                output.write(style.record(record))
 
 
 class Run:
@@ -181,7 +160,7 @@ class Run:
     def check_all(self, output: BinaryIO) -> int:
         """Checks each archive that isn't known to be good, and returns the exit status."""
         given = self._given
-        works = [functools.partial(check, file, given.program, Style.of(file, given)) for file in self._files]
+        works = [functools.partial(check, file, given.program, Style(file, given)) for file in self._files]
         self._progress.begin(len(works), sum(self._sizes))
         try:
             if given.jobs > 1 and len(works) > 1 or type(self._progress) is not Silent:
