@@ -4,7 +4,7 @@ mod PlainArchives
 pub mod ComingLemmas
 pub mod ReportLemmas
 pub mod VerdictLemmas
-mod IndexLemmas
+pub mod IndexLemmas
 pub mod AddingLemmas
 mod NameLemmas
 pub mod SoundLemmas
@@ -30,3 +30,4 @@ pub mod FormListLemmas
 pub mod MemberRowLemmas
 pub mod GrownLemmas
 pub mod MemberOneText
+mod CallLemmas

@@ -1,9 +1,8 @@
 -- The record of the member at an offset is one text.
-use Rattle.index_core.proofs.Words.{◌≡◌, ◌∙◌, ◌++◌, ℕ, ◌-◌, List, Option, Some, Result, Ok, Err, Appends, Archive}
-use Rattle.index_core.proofs.Words.{Cause, Fault, IndexFault, ap, arith, inl, inr, length, refl, subst, sym}
-use Rattle.gzip_members.specs.Members.{member_in}
+use Rattle.index_core.proofs.Words.{◌≡◌, ◌∙◌, ◌++◌, ℕ, ◌-◌, List, Option, Some, Ok, Err, Archive}
+use Rattle.index_core.proofs.Words.{Cause, Fault, ap, arith, inl, inr, length, subst, sym}
 use Rattle.index_core.specs.declared.fault.IndexFault.TheVariants as faults
-use Rattle.index_core.specs.FetchingIn.{FetchesMember, HoldsNone, HoldsRecord, IsMemberFault, IsOfLength}
+use Rattle.index_core.specs.FetchingIn.{HoldsNone, HoldsRecord, IsMemberFault, IsOfLength}
 use Rattle.index_core.specs.OneText.{FetchesMemberFront, FetchesMemberOneText}
 use Rattle.index_core.specs.Report.{IsNoDamage}
 use Rattle.index_core.proofs.OneTextLemmas.{grown, has_front}

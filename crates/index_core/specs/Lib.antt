@@ -53,3 +53,4 @@ pub use Rattle.devices.specs.Positions
 pub use Rattle.devices.specs.FromStd
 pub use Rattle.devices.specs.Gathered
 pub use Rattle.devices.specs.Writing
+pub mod CallLaws

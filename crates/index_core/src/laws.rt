@@ -1,5 +1,9 @@
 //! Laws of the definitions that the contracts cite. These functions do nothing: each law is a
 //! contract.
+ghost use Rattle.index_core.specs.CallLaws.{AddFaultsAre, FetchFaultsAre, FetchedIsArchive};
+ghost use Rattle.index_core.specs.CallLaws.{IndexCountIsOne, InputCountIsOne, InputCountRises};
+ghost use Rattle.index_core.specs.CallLaws.{PartIsFront, RefusalsAre, ReportFaultsAre};
+ghost use Rattle.index_core.specs.CallLaws.{SoundAreIndexed, WriteCountIsOne, WriteFaultsAre};
 ghost use Rattle.index_core.specs.Laws.{AcceptedIsWhole, OneIndexed, OneIndexedTo, CapturesStand};
 ghost use Rattle.index_core.specs.Laws.{OneStands, SomeStands, WholeIsNotRefused, WholeStays};
 ghost use Rattle.index_core.specs.Laws.{CapturesStay, GrownKeepsCaptures, HaveArchiveName};
@@ -15,6 +19,8 @@ ghost use Rattle.index_core.specs.OneText.{IsReport, FetchesOneText, FetchesFron
 ghost use Rattle.index_core.specs.OneText.{FetchesAtFront, AddsOneList, AddsFirst, WritesOneIndex};
 ghost use Rattle.index_core.specs.OneText.{FetchesMemberFront, FetchesMemberOneText, WritesIndexFront};
 ghost use Rattle.index_core.specs.Verifying.{verification};
+
+use warc_core::laws::reading_and_spelling;
 
 /// An archive of either form that is accepted whole has one list of captures. So has a plain one
 /// that is accepted only up to a fault's offset.
@@ -150,4 +156,37 @@ pub fn index_writes_one_text()
     ensures adds_first { AddsFirst }
     ensures writes { WritesOneIndex }
     ensures writes_front { WritesIndexFront }
+{}
+
+/// What `get` writes is itself an archive: of one record, and no more. After a fault it is a front of one, or nothing.
+pub fn fetched_record_is_an_archive()
+    ensures whole { FetchedIsArchive }
+    ensures front { PartIsFront }
+{
+    reading_and_spelling();
+}
+
+/// The index of the captures that an indexer holds is an index, and has a line for each of them.
+pub fn held_captures_have_their_lines()
+    ensures { SoundAreIndexed }
+{}
+
+/// What a call answers decides the counts of failures of its input and of its output. Only where the output failed, the
+/// input may have failed once or not at all. No count falls.
+pub fn calls_decide_counts()
+    ensures index { IndexCountIsOne }
+    ensures output { WriteCountIsOne }
+    ensures input { InputCountIsOne }
+    ensures rises { InputCountRises }
+{}
+
+/// No addition fails in writing or for a record that isn't there, no archive is refused for damage before it is read, no
+/// call that fetches or reports refuses a name, and no report misses a record. An index isn't written only for want of
+/// memory or where the output failed.
+pub fn faults_are_those_of_the_call()
+    ensures add { AddFaultsAre }
+    ensures refusal { RefusalsAre }
+    ensures fetch { FetchFaultsAre }
+    ensures report { ReportFaultsAre }
+    ensures write { WriteFaultsAre }
 {}
