@@ -31,3 +31,5 @@ pub use Rattle.query_text.specs.Queries
 -- what contracts see of devices
 pub use Rattle.devices.specs.Device
 pub use Rattle.devices.specs.Gathered
+pub mod CaptureLaws
+pub mod FaultLaws

@@ -2,6 +2,9 @@
 ghost use Rattle.std.specs.Prelude.{◌≡◌};
 ghost use Rattle.capture_core.specs.CaptureAnswer.{usual_limits};
 ghost use Rattle.warc_core.specs.declared.next.TheConstants.{HEAD_LIMIT};
+ghost use Rattle.scan_core.specs.CaptureLaws.{CapturesAreNamed, CapturesHaveLines};
+ghost use Rattle.scan_core.specs.CaptureLaws.{CapturesHavePlaces, NoneIsLeftOut};
+ghost use Rattle.scan_core.specs.FaultLaws.{BadNamesAreFirst, BadSizesAreFirst, FirstFaultIsOne};
 ghost use Rattle.scan_core.specs.Laws.{IndexIsMerge, OnlyMemoryIsWanting, RemovedIsDropped, ScanIsOne};
 ghost use Rattle.scan_core.specs.Laws.{LaterAreUnread, PackedSelectedAreFetched};
 ghost use Rattle.scan_core.specs.Laws.{RefusedReadsNothing, ScanCountsAreOne, ScanHasFront};
@@ -9,8 +12,8 @@ ghost use Rattle.scan_core.specs.Laws.{ScanIsOverIndex, SelectedAreFetched, Want
 ghost use Rattle.scan_core.specs.Laws.{WantIsNoFailure, WantIsNoRefusal};
 
 use index_core::{
-    accepted_archive_is_not_refused, archive_has_one_list_of_captures, both_forms_of_get_agree,
-    packed_captures_stand_in_members,
+    accepted_archive_is_not_refused, accepted_archive_is_whole, archive_has_one_list_of_captures,
+    both_forms_of_get_agree, packed_captures_stand_in_members,
 };
 
 /// A scan of archives that are accepted whole, with distinct names, good sizes and a good query, over inputs whose
@@ -86,6 +89,33 @@ pub fn refused_scans_leave_archives_unread()
     ensures refused { RefusedReadsNothing }
     ensures later { LaterAreUnread }
 {}
+
+/// Each capture that a scan goes over has its archive's name, a line, and a place of its own, so none is left out as
+/// one that was there before.
+#[tactic(auto, using(crate::proofs::CaptureLemmas::all_named, crate::proofs::CaptureLemmas::all_have_lines))]
+pub fn captures_of_archives_are_told_apart()
+    ensures named { CapturesAreNamed }
+    ensures lines { CapturesHaveLines }
+    ensures places { CapturesHavePlaces }
+    ensures each { NoneIsLeftOut }
+{}
+
+/// A scan says that its sizes are bad before it says anything else that keeps it from writing. Of an archive it says
+/// first that its name is bad, or that an earlier one has it.
+#[tactic(auto, unfolding(crate::specs::Scanning::IsScanFault))]
+pub fn bad_sizes_and_names_are_said_first()
+    ensures sizes { BadSizesAreFirst }
+    ensures names { BadNamesAreFirst }
+{}
+
+/// Of archives whose bytes are known, one is the first that is damaged, has a line that is too long, or has a name that
+/// is refused.
+pub fn first_archive_at_fault_is_one()
+    ensures { FirstFaultIsOne }
+{
+    accepted_archive_is_whole();
+    accepted_archive_is_not_refused();
+}
 
 /// The limits of archives, as numbers: the bytes of a head, of the line of a capture and of an HTTP head, and the fields of an
 /// HTTP head.
