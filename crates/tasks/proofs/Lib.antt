@@ -7,3 +7,4 @@ pub mod UntoldLemmas
 pub mod WriteCounts
 pub mod FailedNames
 pub mod AllOpenLemmas
+pub mod OneTextLemmas

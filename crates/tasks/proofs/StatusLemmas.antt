@@ -1,6 +1,6 @@
 -- Which outcomes have the exit status 0.
 use native.Mathlib.Omega.{arith}
-use Rattle.std.proofs.Common.{◌≡◌, ℕ, List, [], Option, Bool, true, false, refl, sym, subst, inl, inr, Result, Ok, Err}
+use Rattle.std.proofs.Common.{◌≡◌, ◌∙◌, ◌⊎◌, ℕ, List, [], Option, Bool, true, false, refl, sym, subst, inl, inr, Result, Ok, Err}
 use Rattle.std.specs.Prelude.{OnOk, is_ok}
 use Rattle.command_line.specs.Commands.{Meaning, Refusal, Help, Usage}
 use Rattle.devices.specs.Device.{CountsFailure}
@@ -9,7 +9,8 @@ use Rattle.outcomes.specs.declared.outcome.Outcome.{Outcome}
 use Rattle.outcomes.specs.Outcome.{exit_status_of, flushed_outcome}
 use Rattle.tasks.specs.Performing.{Openings, Performs}
 use Rattle.tasks.specs.Running.{Flushes, IsDoneAndFlushed, PerformsAndFlushes, PrintsText, RunsWords, WritesAndFlushes}
-use Rattle.tasks.specs.Running.{flushed_status}
+use Rattle.tasks.specs.Running.{Begins, EndsWith0, LacksMemory, flushed_status}
+use Rattle.tasks.specs.Writes.{CountsWrites}
 
 -- the status of the outcome that is said at the end
 pub flushed_is : (outcome : Outcome) (flushed : Bool)
@@ -23,6 +24,15 @@ zero_is_flushed : (outcome : Outcome) (flushed : Bool) → flushed_status outcom
 unfolding exit_status_of
 zero_is_flushed outcomes.Done true e = (refl, refl)
 zero_is_flushed outcome flushed e = grind arith
+
+-- an outcome with another status than 3 counts no failure
+unless_3 : (outcome : Outcome) (old new : ℕ) → CountsWrites outcome old new → (exit_status_of outcome ≡ 3 → ⊥) → new ≡ old
+unfolding exit_status_of
+unless_3 outcome old new counts other = grind arith
+
+pub outcome_counts : (outcome : Outcome) (old this that : ℕ) → CountsWrites outcome old this
+    → CountsWrites outcome old that → this ≡ that
+outcome_counts outcome old this that a b = grind arith
 
 module _ {O : Type 0} (written flushed : O → Option (List ℕ)) (failures : O → ℕ) where
   -- a call that flushes
@@ -62,3 +72,36 @@ module _ {O : Type 0} (written flushed : O → Option (List ℕ)) (failures : O 
         kept = runs.kept;
         all = flushes.0;
       }
+
+  pub zero_says_done : (files : Openings) (wanted : Result Meaning Refusal) (old new : O)
+      → RunsWords written flushed failures files wanted old new 0
+      → EndsWith0 written flushed failures files wanted old new
+  zero_says_done files (Ok task) old new (inl runs) = done_at_0 files task old new 0 runs refl
+  zero_says_done files (Ok task) old new (inr lacks) = absurd (let three = lacks.0 in cc)
+  zero_says_done files (Err Help) old new (text, inl printed) = (text, printed.1)
+  zero_says_done files (Err Help) old new (text, inr three) = absurd (cc)
+  zero_says_done files (Err Usage) old new (inl two) = absurd (let is = two.0 in cc)
+  zero_says_done files (Err Usage) old new (inr lacks) = absurd (let three = lacks.0 in cc)
+
+  pub usage_changes_nothing : (old new : O) (status : ℕ)
+      → ((status ≡ 2) × (new ≡ old)) ⊎ LacksMemory written flushed failures old new status
+      → (new ≡ old) × (status ≡ 0 → ⊥)
+  usage_changes_nothing old new status runs = grind arith
+
+  begins_unfailed : (task : Meaning) (old begun : O) → Begins written flushed failures task old begun
+      → failures begun ≡ failures old
+  begins_unfailed task old begun begins = grind arith
+
+  after_flush : (outcome : Outcome) (is_flushed : Bool) (ended new : O) (status : ℕ)
+      → Flushes written flushed failures is_flushed ended new → status ≡ flushed_status outcome is_flushed
+      → (status ≡ 3 → ⊥) → (failures new ≡ failures ended) × (exit_status_of outcome ≡ 3 → ⊥)
+  after_flush outcome true ended new status flushes is other = (flushes.1, λ three. other (is ∙ three))
+  after_flush outcome false ended new status flushes is other = absurd (other is)
+
+  -- no write failed where the status isn't 3
+  pub no_write_failed : (files : Openings) (task : Meaning) (old new : O) (status : ℕ)
+      → RunsWords written flushed failures files (Ok task) old new status → (status ≡ 3 → ⊥) → failures new ≡ failures old
+  no_write_failed files task old new status (inl runs) other =
+      let after = after_flush runs.outcome runs.is_flushed runs.ended new status runs.flushes runs.status_is other in
+      after.0 ∙ unless_3 runs.outcome _ _ runs.writes after.1 ∙ begins_unfailed task old runs.begun runs.begins
+  no_write_failed files task old new status (inr lacks) other = absurd (other lacks.0)

@@ -12,3 +12,4 @@ pub mod Scanning
 pub mod Buffers
 pub mod Running
 pub mod OpeningLaws
+pub mod OneText

@@ -1,13 +1,25 @@
 //! Laws of the definitions that the contracts cite. These functions do nothing: each law is a contract.
-ghost use Rattle.std.specs.Prelude.{◌≡◌, ℕ, List, Option};
-ghost use Rattle.command_line.specs.Commands.{Meaning};
+ghost use Rattle.std.specs.Prelude.{◌≡◌, ℕ, List, Option, Some, Result, Ok, Err};
+ghost use Rattle.command_line.specs.Commands.{Meaning, Refusal, Usage};
 ghost use Rattle.outcomes.specs.declared.outcome.Outcome.{Outcome};
 ghost use Rattle.outcomes.specs.declared.outcome.Outcome.TheVariants as outcomes;
 ghost use Rattle.query_text.specs.declared.fault.QueryFault.{QueryFault};
+ghost use Rattle.tasks.specs.OneText.{AreKnown, IsDone, IsNoConversation};
 ghost use Rattle.tasks.specs.OpeningLaws.{AllOpen, OpensAllFirst};
 ghost use Rattle.tasks.specs.Performing.{openings, Performs, untold};
+ghost use Rattle.tasks.specs.Running.{EndsWith0, RunsWords};
+ghost use Rattle.tasks.specs.Writes.{CountsWrites};
 
 use crate::opening::Opener;
+use index_core::{
+    get_writes_one_text, index_writes_one_text, list_writes_one_text, verify_writes_one_text,
+};
+use outcomes::status_zero_is_done;
+use query_core::{
+    answer_writes_one_text, conversation_over_indexes_writes_one_text, merge_writes_one_text,
+    pages_write_one_text,
+};
+use scan_core::scan_writes_one_text;
 
 /// What a task promises over the bytes that its archives and standard input may have, it also promises if no bytes of
 /// them are told.
@@ -45,4 +57,60 @@ pub fn refused_tasks_write_nothing<F: Opener, O>(files: &F)
         → Performs (openings F.tells_archive F.index_bytes F.archive_failed F.index_failed
         F.tells_input files.now) (written old) (written new) (new ≡ old) (outcomes.Query fault) task
         → written new ≡ written old }
+{}
+
+/// The files decide what a task that is done has written, if their bytes are known, and what it reads as indexes are
+/// indexes. So whoever runs it again over them, and sees it done, has the same bytes. That is said of the exit status 0
+/// too, but for a conversation, which hands on each reply.
+pub fn done_tasks_write_one_text<F: Opener, O>(files: &F)
+    ensures done { (task : Meaning) → (written : O → Option (List ℕ)) → (before : List ℕ)
+        → (here this there that : O)
+        → AreKnown (openings F.tells_archive F.index_bytes F.archive_failed F.index_failed
+        F.tells_input files.now) task
+        → IsDone (openings F.tells_archive F.index_bytes F.archive_failed F.index_failed
+        F.tells_input files.now) task written before here this
+        → IsDone (openings F.tells_archive F.index_bytes F.archive_failed F.index_failed
+        F.tells_input files.now) task written before there that → written this ≡ written that }
+    ensures exit { (task : Meaning) → (written flushed : O → Option (List ℕ)) → (failures : O → ℕ)
+        → (before : List ℕ) → (old this that : O)
+        → AreKnown (openings F.tells_archive F.index_bytes F.archive_failed F.index_failed
+        F.tells_input files.now) task → IsNoConversation task → written old ≡ Some before
+        → EndsWith0 written flushed failures (openings F.tells_archive F.index_bytes
+        F.archive_failed F.index_failed F.tells_input files.now) (Ok task) old this
+        → EndsWith0 written flushed failures (openings F.tells_archive F.index_bytes
+        F.archive_failed F.index_failed F.tells_input files.now) (Ok task) old that
+        → written this ≡ written that }
+{
+    status_zero_is_done();
+    list_writes_one_text();
+    verify_writes_one_text();
+    index_writes_one_text();
+    merge_writes_one_text();
+    answer_writes_one_text();
+    pages_write_one_text();
+    conversation_over_indexes_writes_one_text();
+    get_writes_one_text();
+    scan_writes_one_text();
+}
+
+/// The exit status 0 says that what was asked was done, and flushed. Arguments that can't be read never end with it, and
+/// write nothing. Unless the status is 3, no write has failed.
+pub fn exit_status_says_what_was_done<F: Opener, O>(files: &F)
+    ensures zero { (words : Result Meaning Refusal) → (written flushed : O → Option (List ℕ))
+        → (failures : O → ℕ) → (old new : O)
+        → RunsWords written flushed failures (openings F.tells_archive F.index_bytes
+        F.archive_failed F.index_failed F.tells_input files.now) words old new 0
+        → EndsWith0 written flushed failures (openings F.tells_archive F.index_bytes
+        F.archive_failed F.index_failed F.tells_input files.now) words old new }
+    ensures usage { (written flushed : O → Option (List ℕ)) → (failures : O → ℕ) → (old new : O)
+        → (status : ℕ) → RunsWords written flushed failures (openings F.tells_archive F.index_bytes
+        F.archive_failed F.index_failed F.tells_input files.now) (Err Usage) old new status
+        → (new ≡ old) × (status ≡ 0 → ⊥) }
+    ensures failed { (task : Meaning) → (written flushed : O → Option (List ℕ))
+        → (failures : O → ℕ) → (old new : O) → (status : ℕ)
+        → RunsWords written flushed failures (openings F.tells_archive F.index_bytes
+        F.archive_failed F.index_failed F.tells_input files.now) (Ok task) old new status
+        → (status ≡ 3 → ⊥) → failures new ≡ failures old }
+    ensures counts { (outcome : Outcome) → (old this that : ℕ) → CountsWrites outcome old this
+        → CountsWrites outcome old that → this ≡ that }
 {}

@@ -23,7 +23,10 @@ mod system;
 
 pub use crate::buffered::Buffered;
 pub use crate::flush::Flush;
-pub use crate::laws::promises_hold_untold;
+pub use crate::laws::{
+    done_tasks_write_one_text, exit_status_says_what_was_done, opened_files_are_no_fault,
+    promises_hold_untold, refused_tasks_write_nothing,
+};
 pub use crate::opening::{ArchiveOver, Opener};
 pub use crate::program::{perform, run_on};
 pub use crate::standard_input::StandardInput;
