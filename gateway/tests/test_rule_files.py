@@ -3,6 +3,8 @@ import base64
 import datetime
 import os
 import pathlib
+import signal
+import time
 import unittest
 from typing import Any
 from unittest import mock
@@ -207,6 +209,28 @@ class Served(Case):
                 self.assertEqual(1, self.rows(server))
         path.write_text("rules = []\n")
         self.wait_for(lambda: self.rows(server) == 8, "the rules aren't read")
+
+    def test_settings_that_are_read_again_while_somebody_saves_the_rules_open_nothing(self) -> None:
+        """A part of the file is a file of rules too, and so is one that was emptied first."""
+        self.put(SAMPLE)
+        rule = '[[rules]]\naction = "exclude"\nhost = "%s"\n'
+        whole = rule % "example.org" + rule % "example.com"
+        path = self.put(whole, "rules.toml")
+        server = self.start('rules = "rules.toml"\n[collections.main]\nindexes = ["index"]\n')
+        self.assertEqual(b"", server.ask("/cdx?url=example.com").body)
+        workers = set(server.workers())
+        for part in ("", whole[:-9], rule % "example.org"):
+            path.write_text(part)
+            server.process.send_signal(signal.SIGHUP)
+            end = time.monotonic() + SETTLED - 0.7
+            while time.monotonic() < end:
+                self.assertEqual(b"", server.ask("/cdx?url=example.com").body, part)
+            path.write_text(whole)
+        self.wait_for(lambda: not workers & set(server.workers()), "they aren't used")
+        self.assertEqual(b"", server.ask("/cdx?url=example.com").body)
+        path.write_text(rule % "example.org")
+        server.process.send_signal(signal.SIGHUP)
+        self.wait_for(lambda: server.ask("/cdx?url=example.com").body, "they aren't used")
 
     def test_a_gateway_does_not_start_with_broken_rules(self) -> None:
         self.put(SAMPLE)

@@ -21,6 +21,7 @@ from .refusal import say
 from .settings import BadSettings
 
 MOST = 32 << 20  # bytes of the rules as the workers get them
+NONE = b"[]"  # the text of no rules
 KEY, STAMP, DIGEST = 0, 1, 5  # the places of these fields in a row of all fields
 ACTIONS = {"metadata": 1, "exclude": 2}
 TARGETS = ("url", "prefix", "host", "domain", "key")
@@ -139,16 +140,30 @@ class RulesFile:
     """The file of rules, which is read again when it has changed. Without a path there are no rules.
 
     `text` is the last rules that could be read, as `rules_of` takes them. The constructor raises
-    BadSettings if the file can't be read: nothing is shown that it may close.
+    BadSettings if the file can't be read: nothing is shown that it may close. It may come after `before`.
     """
 
-    def __init__(self, path: Optional[pathlib.Path], program: str, collections: Container[str]) -> None:
+    def __init__(
+        self, path: Optional[pathlib.Path], program: str, collections: Container[str], before: "Optional[RulesFile]" = None
+    ) -> None:
         self._path = path
         self._program = program
         self._collections = collections
         self._seen = self._read_at = self._identity()
-        self._since = 0.0  # when it was first seen as it is
-        self.text = b"[]" if path is None else self._read(path)
+        is_known = before is None or self._read_at == before._read_at
+        self._since = -SETTLED if is_known else time.monotonic()  # when it was first seen as it is
+        self.text: bytes = NONE if before is None else before.text
+        self.text = NONE if path is None else self._read(path)
+
+    @property
+    def has_changed(self) -> bool:
+        """Whether the file is another one than the constructor has read."""
+        return self._identity() != self._read_at
+
+    @property
+    def has_settled(self) -> bool:
+        """Whether nobody has written to the file for some time. Until then it may be a part of one that is being saved."""
+        return self._path is None or time.monotonic() - self._since >= SETTLED
 
     def look(self) -> None:
         """Reads the file again if it has changed, and nobody writes to it. One that can't be read changes no rules."""
@@ -181,7 +196,7 @@ class RulesFile:
     def _read(self, path: pathlib.Path) -> bytes:
         try:
             content = path.read_bytes()
-            if not content and self._since:  # as where a full disk has cut it
+            if not content and self.text != NONE:  # as where a full disk has cut it
                 raise BadSettings("it is empty: rules = [] says that there are none")
             tables = tomllib.loads(content.decode())
             return text_of(tables, self._program, self._collections)

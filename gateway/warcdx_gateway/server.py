@@ -88,7 +88,7 @@ class Server(BaseApplication):
         try:
             settings = self._read()
             known = self._known() if settings.program == self._settings.program else ()
-            self._next = settings, rules_file(settings), self._openings(settings, known)
+            self._next = settings, rules_file(settings, self._rules), self._openings(settings, known)
         except (BadSettings, Error, OSError) as error:
             self._keep_settings(error)
 
@@ -99,8 +99,10 @@ class Server(BaseApplication):
         self._renew()
         self._rules.look()
         self._rules_board.write(self._rules.text)
+        if self._next is not None and self._next[1].has_changed:
+            self.read_again()
         try:
-            return self._next is not None and self._next[2].advance()
+            return self._next is not None and self._next[2].advance() and self._next[1].has_settled
         except (Error, OSError) as error:
             self._end_next()
             self._keep_settings(error)
@@ -203,10 +205,10 @@ class Server(BaseApplication):
         self._next = None
 
 
-def rules_file(settings: Settings) -> RulesFile:
+def rules_file(settings: Settings, before: Optional[RulesFile] = None) -> RulesFile:
     """Reads the rules of settings. Raises BadSettings."""
     path = pathlib.Path(settings.rules) if settings.rules else None
-    return RulesFile(path, settings.program, [each.name for each in settings.collections])
+    return RulesFile(path, settings.program, [each.name for each in settings.collections], before)
 
 
 def run(settings: Settings, read: Callable[[], Settings]) -> None:
