@@ -11,6 +11,7 @@ from unittest import mock
 from . import browse_support
 from .support import COMMAND, PROGRAM, ROOT, SAMPLE, WAIT, Case, Shared, connected, lines
 
+from warcdx_gateway.application import FORM
 from warcdx_gateway.settings import CollectionSettings, Settings, checked
 
 
@@ -71,6 +72,17 @@ class Http(Shared):
             client.socket.shutdown(socket.SHUT_WR)
             self.assertEqual(400, client.response().status)
         self.assertEqual("", self.server.said.read_text())
+
+    def test_the_parameters_of_a_media_type_mean_nothing(self) -> None:
+        body = b"url=example.com/a&fl=length"
+        for kind, status in (
+            (FORM, 200), (FORM.upper(), 200), (f"{FORM} ; charset=utf-8", 200), (f"{FORM}; a*0*=''; a*0*=''", 200), (f"{FORM}; a*=nosuch'x'%ff", 200),
+            (f"{FORM};" + " ;=" * 2000, 200), (f"x{FORM}", 400), ("text/plain; a*0*='';" * 9, 400), ("", 400),
+        ):  # fmt: skip
+            with connected(self.server) as client:
+                head = f"POST /cdx HTTP/1.1\r\nHost: localhost\r\nContent-Type: {kind}\r\nContent-Length: {len(body)}\r\n\r\n"
+                client.send(head.encode() + body)
+                self.assertEqual(status, client.response().status, kind[:99])
 
     def test_a_target_may_name_the_server(self) -> None:
         for scheme in ("http", "HTTP", "Https"):

@@ -73,7 +73,8 @@ class GatewayRequest(Request):
         Raises Refusal if it isn't UTF-8.
         """
         try:
-            if self.method == "POST" and self.mimetype == FORM:
+            kind = self.headers.get("Content-Type", "").partition(";")[0]
+            if self.method == "POST" and kind.strip().lower() == FORM:
                 parts = self.query_string, self.body
                 return "&".join(part.decode() for part in parts if part)
             return self.query_string.decode()
