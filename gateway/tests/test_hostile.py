@@ -284,13 +284,17 @@ class Requests(Case):
                 client.socket.settimeout(20)
                 with contextlib.suppress(ConnectionResetError):
                     found = client.response()
-                    self.assertEqual((400, "refused BadBody: the body of the request can't be read\n"), (found.status, found.text), sent[:40])
+                    self.assertEqual(
+                        (400, "refused BadBody: the body of the request can't be read\n"), (found.status, found.text), sent[:40]
+                    )
         self.assertEqual("", self.server.said.read_text())
 
     def test_what_servers_read_in_different_ways_is_refused(self) -> None:
         """So a server in front and the gateway never see two requests in one, or other fields."""
         query, body = b"/cdx?url=example.com/a&fl=length", b"url=example.com/a&fl=length"
-        form = b"POST /cdx HTTP/1.1\r\nHost: localhost\r\nContent-Type: application/x-www-form-urlencoded\r\nContent-Length:%s\r\n\r\n" + body
+        form = (
+            b"POST /cdx HTTP/1.1\r\nHost: localhost\r\nContent-Type: application/x-www-form-urlencoded\r\nContent-Length:%s\r\n\r\n" + body
+        )
         get = b"GET %s HTTP/%s\r\n%s\r\n\r\n"
         for status, request in (
             *((200, form % length) for length in (b"27", b" 27", b"\t27 ", b"0027")),

@@ -4,7 +4,6 @@ import os
 import pathlib
 import signal
 import socket
-import tempfile
 import threading
 import time
 import unittest
@@ -126,13 +125,11 @@ class Working(unittest.TestCase):
 
 class Waits(unittest.TestCase):
     def setUp(self) -> None:
-        folder = tempfile.TemporaryDirectory()
-        self.addCleanup(folder.cleanup)
         self.waiting = Waiting()
         self.addCleanup(self.waiting.close)
         self.stack = contextlib.ExitStack()
         self.addCleanup(self.stack.close)
-        self.shares = Shares(pathlib.Path(folder.name), self.waiting, wide=3, wait=10)
+        self.shares = Shares(self.waiting, wide=3, wait=10)
 
     def put(self, queue: int, heard: bytes = b"GET", arrived: Optional[float] = None) -> bool:
         client, there = pair(Lease.FREE, arrived)

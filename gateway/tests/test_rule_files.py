@@ -280,7 +280,12 @@ class Unlisted(Shared):
 
     def test_its_path_has_no_way_out(self) -> None:
         """A server in front compares a path without its `..`, as nginx does, and sends it as it came: then none may be in it."""
-        for path in ("timegate/http://example.com/..", "2016id_/http://example.com/%2e%2e/%2E./..", "timemap/link/http://example.com/..?x", "cdx/../../cdx"):
+        for path in (
+            "timegate/http://example.com/..",
+            "2016id_/http://example.com/%2e%2e/%2E./..",
+            "timemap/link/http://example.com/..?x",
+            "cdx/../../cdx",
+        ):
             path += "" if "?" in path else "/../../../../cdx"
             found = self.server.ask(f"/private/{path}")
             self.assertEqual((404, b"refused NotFound: there is no such collection\n"), (found.status, found.body), path)

@@ -96,6 +96,7 @@ class Server(BaseApplication):
         """Goes on with the checks of indexes. Returns whether settings that were read can be used."""
         ended, self._ended = self._ended, 0
         self._metrics.ended.inc(ended)
+        self._metrics.keep()
         self._renew()
         self._rules.look()
         self._rules_board.write(self._rules.text)
@@ -170,7 +171,7 @@ class Server(BaseApplication):
         """Makes the application of settings whose indexes were checked."""
         found = openings.taken()
         collections = {each.name: Collection(each, settings, found[each.name]) for each in settings.collections}
-        self.shares = Shares(self._folder, self.waiting, settings.wide, settings.limits.wait)
+        self.shares = Shares(self.waiting, settings.wide, settings.limits.wait)
         self._board = Board(sum(map(most_state, settings.collections)))
         self._rules, self._rules_board = rules, Board(MOST_RULES)
         self._rules_board.write(rules.text)

@@ -1,4 +1,5 @@
 """What the workers share: locks of files, words of the master, and counts for Prometheus."""
+import contextlib
 import errno
 import fcntl
 import hashlib
@@ -42,33 +43,37 @@ class Beat:
 
 
 class Slots:
-    """Files, each of which is locked by at most one process.
+    """Slots, each of which at most one process has: a locked byte of a file in memory.
 
-    The system gives a slot back when its process ends, however it ends. The first files, `ready` of
-    them, are made at once, as the disk may be full later.
+    The system gives a slot back when its process ends, however it ends.
     """
 
-    def __init__(self, folder: pathlib.Path, name: str, count: int, ready: int) -> None:
-        self._paths = [folder / f"{name}-{number}" for number in range(count)]
-        for path in self._paths[:ready]:
-            path.touch()
+    _LOCK = struct.Struct("hhqqi4x")  # struct flock of fcntl(2)
+
+    def __init__(self, count: int) -> None:
+        self._file = os.memfd_create("slots")
+        self._count = count
 
     def take(self) -> Optional[tuple[int, BinaryIO]]:
         """Returns the number of a slot that was free and its open file, or None."""
-        for number in range(len(self._paths)):
+        for number in range(self._count):
             if (file := self.take_one(number)) is not None:
                 return number, file
         return None
 
     def take_one(self, number: int, waits: bool = False) -> Optional[BinaryIO]:
         """Returns the open file of a slot, or None if another process has it. It can be waited for."""
-        file = open(self._paths[number], "wb")
+        file = open(f"/proc/self/fd/{self._file}", "wb")
         try:
-            fcntl.flock(file, fcntl.LOCK_EX | (0 if waits else fcntl.LOCK_NB))
+            command = fcntl.F_OFD_SETLKW if waits else fcntl.F_OFD_SETLK
+            fcntl.fcntl(file, command, self._LOCK.pack(fcntl.F_WRLCK, os.SEEK_SET, number, 1, 0))
         except BlockingIOError:
             file.close()
             return None
         return file
+
+    def close(self) -> None:
+        os.close(self._file)
 
 
 class Board:
@@ -110,11 +115,11 @@ class Metrics:
 
     def __init__(self, folder: pathlib.Path, workers: int = 1) -> None:
         self._folder = folder
-        self._seats = Slots(folder, "seat", MOST_SEATS, 2 * workers)
+        self._seats = Slots(MOST_SEATS)
         self._seat = "master"
-        for seat in ("master", *map(str, range(2 * workers))):
-            for kind in ("counter", "gauge_max", "histogram"):
-                (folder / f"{kind}_{seat}.db").write_bytes(bytes(FILE))
+        seats = "master", *map(str, range(2 * workers))
+        self._files = [folder / f"{kind}_{seat}.db" for seat in seats for kind in ("counter", "gauge_max", "histogram")]
+        self._fill()
         os.environ["PROMETHEUS_MULTIPROC_DIR"] = str(folder)
         values.ValueClass = values.MultiProcessValue(lambda: self._seat)
         # The registry is of this object, as a master that reads its settings again has another one.
@@ -149,6 +154,18 @@ class Metrics:
         self._taken = self._seats.take()  # its file stays open
         if self._taken is not None:
             self._seat = str(self._taken[0])
+        self.bytes.inc(0)  # which opens the files of the seat
+
+    def keep(self) -> None:
+        """Makes the folder anew if it is gone, as by a cleaner of old files. What was counted is lost."""
+        with contextlib.suppress(OSError):
+            if not self._folder.exists():
+                self._folder.mkdir(mode=0o700)
+                self._fill()
+
+    def _fill(self) -> None:
+        for file in self._files:
+            file.write_bytes(bytes(FILE))
 
     def text(self) -> bytes:
         """Returns all counts in the text format of Prometheus."""

@@ -1,7 +1,7 @@
 """Requests that wait for a slot: their connections are in queues of the system, and keep no worker.
 
-A worker that ends, however it ends, gives back what it has: a slot is a lock of a file, and what
-waits belongs to no worker.
+A worker that ends, however it ends, gives back what it has: a slot is a lock of a file in memory, and
+what waits belongs to no worker.
 """
 import contextlib
 import functools
@@ -9,14 +9,13 @@ import ipaddress
 import itertools
 import mmap
 import os
-import pathlib
 import socket
 import struct
 import time
 from collections.abc import Iterator
 from typing import Optional
 
-from .settings import is_loopback
+from .settings import MOST_WORKERS, is_loopback
 from .shared import Slots
 from .work import Connection, Lease
 
@@ -32,9 +31,10 @@ _SENT = 2  # descriptors: a connection, and a file with what was read of it
 
 
 class Waiting:
-    """The queues. They stay when the settings are read again."""
+    """The queues, and the slots that are waited for. They stay when the settings are read again."""
 
     def __init__(self) -> None:
+        self.slots, self.turn = Slots(MOST_WORKERS), Slots(1)
         self._has_ended = mmap.mmap(-1, 1)  # whether no worker takes what waits from now on
         self._ends = [socket.socketpair(socket.AF_UNIX, socket.SOCK_SEQPACKET) for _ in range(QUEUES)]
         for pair in self._ends:
@@ -48,6 +48,8 @@ class Waiting:
         return [taking.fileno() for _, taking in self._ends]
 
     def close(self) -> None:
+        self.slots.close()
+        self.turn.close()
         for end in itertools.chain.from_iterable(self._ends):
             end.close()
 
@@ -102,10 +104,8 @@ class Shares:
     A queue has `wait` seconds for its requests.
     """
 
-    def __init__(self, folder: pathlib.Path, waiting: Waiting, wide: int, wait: float) -> None:
+    def __init__(self, waiting: Waiting, wide: int, wait: float) -> None:
         self.waiting = waiting
-        self._slots = Slots(folder, "wide", wide, wide)
-        self._turn = Slots(folder, "turn", 1, 1)
         self._wide = wide
         self._wait = wait
         self._queues = mmap.mmap(-1, 1 + wide)  # the last one, and that of each slot, 0 for none
@@ -123,7 +123,7 @@ class Shares:
     def _with_slot(self) -> tuple[Optional[Connection], contextlib.ExitStack]:
         """Returns a request, and its slot to be closed."""
         with contextlib.ExitStack() as stack:
-            if (turn := self._turn.take_one(0, waits=True)) is not None:
+            if (turn := self.waiting.turn.take_one(0, waits=True)) is not None:
                 stack.enter_context(turn)
             number, slot = self._free_slot()
             if number is None:
@@ -141,7 +141,7 @@ class Shares:
         found: Optional[int] = None
         slot = contextlib.ExitStack()
         for number in range(self._wide):
-            if (file := self._slots.take_one(number)) is None:
+            if (file := self.waiting.slots.take_one(number)) is None:
                 continue
             self._queues[1 + number] = 0
             if found is None:
