@@ -61,18 +61,14 @@ class Answers:
         held = self._limits.held
         wanted = plan.limit or held + 1
         found = range_of(plan.target, source) if plan.resume_key is None else None
-        size = max(wanted * LINE, LEAST_PART)
-        for stretch in backwards(found, size) if found is not None else ():
-            if stretch.is_whole:
-                break
-            selection = Selection(plan, source, self._limits, None, stretch, is_apart=True)
+        parts = backwards(found, max(wanted * LINE, LEAST_PART)) if found is not None else iter(())
+        for part in itertools.chain(parts, (None,)):
+            stretch = None if part is None or part.is_whole else part
+            selection = Selection(plan, source, self._limits, plan.resume_key, stretch, is_apart=stretch is not None)
             count = sum(map(len, selection.timestamps()))
-            if count >= wanted:
+            if stretch is None or count >= wanted:
                 yield from ordered(plan, selection, last_numbers(plan, count, held))
                 return
-        selection = Selection(plan, source, self._limits, plan.resume_key)
-        count = sum(map(len, selection.timestamps()))
-        yield from ordered(plan, selection, last_numbers(plan, count, held))
 
 
 def page_count(plan: Plan, count: int) -> bytes:

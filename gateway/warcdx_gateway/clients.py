@@ -4,8 +4,7 @@ import functools
 import itertools
 import json
 import re
-from collections.abc import Mapping
-from datetime import datetime, timezone
+from collections.abc import Callable, Mapping
 from typing import Optional
 from urllib.parse import parse_qsl, unquote_plus
 from xml.sax.saxutils import escape
@@ -15,16 +14,18 @@ from werkzeug.exceptions import NotFound
 from werkzeug.routing import Rule
 from werkzeug.wrappers import Request, Response
 
+from warcdx import Capture
+
 from . import memento
 from .application import METHODS, WAYBACK_PATHS, Gateway, GatewayRequest, rule
 from .collection import Collection, Source
-from .history import History, first_moment, nearest_of, quoted
+from .history import History, first_moment, nearest_of, present_moment, quoted
 from .parameters import Form, is_number
 from .refusal import Refusal
 
 JSON = "application/json"
 XML = "text/xml; charset=utf-8"
-CDX11 = "urlkey,timestamp,original,mimetype,statuscode,digest,redirect,robotflags," "length,offset,filename"
+CDX11 = "urlkey,timestamp,original,mimetype,statuscode,digest,redirect,robotflags,length,offset,filename"
 # The elements of a result of an XML query, and the fields that they have.
 CAPTURE_MEMBERS = {
     "compressedoffset": "offset",
@@ -50,7 +51,10 @@ TIME_MAPS = {"json": "json", "cdx": "text", "cdxj": "cdxj"}  # their outputs
 MOST_ASKED = 50  # URLs of one request of the availability API
 MOST_RESULTS = 10_000  # of an XML query
 # Which capture `closest` of the availability API wants.
-CHOICES = {"before": History.up_to, "after": History.since}
+CHOICES: dict[str, Callable[[History, str], Optional[Capture]]] = {
+    "before": lambda history, moment: history.last(int(moment)),
+    "after": lambda history, moment: history.first(int(moment)),
+}
 _NOT_XML = re.compile("[^\t\n\r -\ud7ff\ue000-\ufffd\U00010000-\U0010ffff]")
 
 
@@ -147,7 +151,7 @@ def xml_query(gateway: Gateway, collection: Collection, sent: "MultiDict[str, st
     results = [dict(zip(names, row)) for row in rows]
     asked = {
         "startdate": times["from"] or "19960101000000",
-        "enddate": times["to"] or f"{datetime.now(timezone.utc):%Y%m%d%H%M%S}",
+        "enddate": times["to"] or present_moment(),
         "type": kind,
         "firstreturned": str(first),
         "url": results[0]["urlkey"] if results else given["url"],
@@ -192,11 +196,9 @@ def _available(gateway: Gateway, request: Request, given: "MultiDict[str, str]")
         raise Refusal("BadStamp", "timestamp", "it is 1 to 14 digits", timestamp)
     answer: dict[str, object] = {name: given[name] for name in ("url", "tag") if name in given}
     answer["archived_snapshots"] = {}
+    wanted = first_moment(timestamp) if timestamp else present_moment()
     if timestamp:
         answer["timestamp"] = timestamp
-        wanted = first_moment(timestamp)
-    else:
-        wanted = f"{datetime.now(timezone.utc):%Y%m%d%H%M%S}"
     with contextlib.suppress(NotFound):
         resource = memento.Resource(gateway, request, "", url)
         codes = given.getlist("statuscodes")[:10] or ["200"]

@@ -1,6 +1,7 @@
 """The captures of one URL, found by their time without reading all of them."""
 import calendar
 from collections.abc import Callable, Iterable
+from datetime import datetime, timezone
 from typing import Optional
 from urllib.parse import quote_plus
 
@@ -42,27 +43,34 @@ class History:
         found._target = self._target + condition
         return found
 
-    def first(self) -> Optional[Capture]:
-        return self._first_from(FIRST)
+    def first(self, since: int = FIRST) -> Optional[Capture]:
+        """Returns the first capture at a time or after it."""
+        found = self._dated(since, LAST)
+        return found[0] if found else None
 
-    def last(self) -> Optional[Capture]:
-        return self._last_in(FIRST, LAST)
+    def last(self, until: int = LAST) -> Optional[Capture]:
+        """Returns the last capture at a time or before it.
+
+        It halves the times that the capture may have, until few captures are in them.
+        """
+        best, low, start = None, FIRST, FIRST
+        while low <= until:
+            found = self._between(start, until)
+            if found:
+                best = next((each for each in reversed(found) if each.datetime), best)
+                low = int(found[-1].timestamp)
+                if len(found) < MOST or start == until:
+                    break
+            else:
+                until = start - 1
+            start = (low + until + 1) // 2
+        return best
 
     def before(self, timestamp: str) -> Optional[Capture]:
-        """Returns the last capture before a time."""
-        return self._last_in(FIRST, int(timestamp) - 1)
+        return self.last(int(timestamp) - 1)
 
     def after(self, timestamp: str) -> Optional[Capture]:
-        """Returns the first capture after a time."""
-        return self._first_from(int(timestamp) + 1)
-
-    def up_to(self, timestamp: str) -> Optional[Capture]:
-        """Returns the last capture at a time or before it."""
-        return self._last_in(FIRST, int(timestamp))
-
-    def since(self, timestamp: str) -> Optional[Capture]:
-        """Returns the first capture at a time or after it."""
-        return self._first_from(int(timestamp))
+        return self.first(int(timestamp) + 1)
 
     def nearest(self, timestamp: str, original: str = "") -> Optional[Capture]:
         """Returns the capture nearest to a time, and of two that are as near the earlier one.
@@ -87,25 +95,6 @@ class History:
         if kept:
             return kept, found[len(kept)] if len(kept) < len(found) else following, 0
         return found, following, most + (passed if following.timestamp == timestamp else 0)
-
-    def _first_from(self, low: int) -> Optional[Capture]:
-        found = self._dated(low, LAST)
-        return found[0] if found else None
-
-    def _last_in(self, low: int, high: int) -> Optional[Capture]:
-        """Halves the times that the last capture may have, until few captures are in them."""
-        best, start = None, low
-        while low <= high:
-            found = self._between(start, high)
-            if found:
-                best = next((each for each in reversed(found) if each.datetime), best)
-                low = int(found[-1].timestamp)
-                if len(found) < MOST or start == high:
-                    break
-            else:
-                high = start - 1
-            start = (low + high + 1) // 2
-        return best
 
     def _dated(self, low: int, high: int, most: int = MOST) -> list[Capture]:
         return [each for each in self._between(low, high, most) if each.datetime]
@@ -136,6 +125,10 @@ def before_time(key: str, timestamp: int) -> str:
 
 def resumed(place: str) -> str:
     return f"&resumeKey={quoted(place)}"
+
+
+def present_moment() -> str:
+    return f"{datetime.now(timezone.utc):%Y%m%d%H%M%S}"
 
 
 def first_moment(digits: str) -> str:

@@ -1,12 +1,12 @@
 """The parameters of a query: their names, and what the value of each may be."""
 import re
-from datetime import datetime, timezone
 from enum import Enum
 from urllib.parse import quote_plus, unquote_to_bytes
 
 from warcdx import FIELDS
 
 from .conditions import SPECIAL, Condition, Test, compiled
+from .history import present_moment
 from .refusal import Refusal
 from .rows import GROUPED, ORIGINALS, UNKNOWN, Collapse
 from .settings import Limits
@@ -214,7 +214,7 @@ def translated(query: str) -> str:
         if name in CLIENT_FLAGS and value in ("True", "False"):
             piece, value = f"{name}={value.lower()}", value.lower()
         if name == "closest" and value == "now":
-            piece = f"closest={datetime.now(timezone.utc):%Y%m%d%H%M%S}"
+            piece = f"closest={present_moment()}"
         elif name == "resumeKey" and PLACE.fullmatch(value):
             piece = f"resumeKey={value}"  # it was encoded once more than it is written
         elif name == "output" and value == "txt":
