@@ -110,11 +110,10 @@ class Gateway:
 
     def collection(self, name: str) -> Collection:
         """Returns the collection of a name in a path, without one the main one. Raises NotFound."""
-        if not name:
-            return self.main
-        if name not in self.collections:
+        found = self.collections.get(name) if name else self.main
+        if found is None:
             raise NotFound("there is no such collection")
-        return self.collections[name]
+        return found
 
     def look(self) -> None:
         """Goes on with the files that the master has taken into use."""

@@ -175,8 +175,7 @@ class Plan:
         """The query for the first capture of the answer, at most: the program refuses it as it does the whole."""
         if self.is_plain:
             return self.plain_query(self.resume_key, 1)
-        key = "" if self.resume_key is None else f"&resumeKey={self.resume_key}"
-        return f"{self.selected}{key}&limit=1"
+        return with_key(f"{self.selected}&limit=1", self.resume_key)
 
     def plain_query(self, resume_key: Optional[str], limit: Optional[int]) -> str:
         """Returns the query whose page is the answer."""
@@ -188,6 +187,10 @@ class Plan:
         if limit is not None:
             pieces.append(f"limit={limit}")
         return "&".join(piece for piece in pieces if piece)
+
+
+def with_key(query: str, key: Optional[str]) -> str:
+    return query if key is None else f"{query}&resumeKey={key}"
 
 
 def plan_of(query: str, form: Form, limits: Limits, is_open: bool) -> Plan:

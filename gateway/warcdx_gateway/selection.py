@@ -10,7 +10,7 @@ from warcdx import FIELDS
 from .collection import Source, values_of
 from .conditions import Conditions
 from .history import LAST_PLACE
-from .plan import Plan
+from .plan import Plan, with_key
 from .ranges import Positions, Range
 from .rows import DIGEST, KEY, MIME, PLACES, STAMP, STATUS, UNKNOWN_PART, Collapser, Grouper, Output, Part, Row, row_of_line, row_of_values
 from .settings import Limits
@@ -248,7 +248,3 @@ def sliced(groups: Iterable[list[Item]], first: int, end: int = sys.maxsize) -> 
         number += len(found)
         if number >= end:
             return
-
-
-def with_key(query: str, key: Optional[str]) -> str:
-    return query if key is None else f"{query}&resumeKey={key}"
