@@ -47,7 +47,7 @@ class Checked(Case):
         return path.read_text().split() if path.exists() else []
 
     def noted(self, *rules: str) -> pathlib.Path:
-        return self.program(f"cd {self.folder} || exit", NOTE, *rules)
+        return self.program(f"cd '{self.folder}' || exit", NOTE, *rules)
 
     def ask_pages(self, server: Server) -> list[str]:
         """Asks for each page of the sample once, and returns what is no right answer."""

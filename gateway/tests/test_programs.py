@@ -133,15 +133,13 @@ class Programs(Case):
 
     def test_a_client_that_leaves_is_noticed_while_the_program_is_silent(self) -> None:
         self.put(SAMPLE)
-        rule = '[ "$1" != serve ] || { while read -r line; do exec sleep 600; done; exit; }'
-        server = self.start(program=self.program(rule))
+        rule = '[ "$1" != serve ] || { while read -r line; do : > "$0.asked"; exec sleep 600; done; exit; }'
+        server = self.start(head="timeout = 600\n", program=self.program(rule), query=599)
         with connected(server) as client:
             client.send(b"GET /cdx?url=example.com HTTP/1.1\r\nHost: localhost\r\n\r\n")
-            time.sleep(1.5)
+            self.wait_for((self.folder / "program.asked").exists, "the program isn't asked")
             self.assertTrue(server.programs())
-        start = time.monotonic()
-        self.wait_for(lambda: not server.programs(), "the program goes on")
-        self.assertLess(time.monotonic() - start, 5)  # where limits.query is 30
+        self.wait_for(lambda: not server.programs(), "the program goes on")  # long before limits.query ends it
 
 
 class Indexes(Case):

@@ -168,7 +168,7 @@ class Ends(Case):
         with connected(server) as first, connected(server) as second:
             first.begin(ALL)
             second.send(f"GET {ALL}&collapse=digest HTTP/1.1\r\nHost: localhost\r\n\r\n".encode())
-            time.sleep(1)
+            self.assertEqual(b"8\n", server.ask(EXACT).body)  # by the worker of the second, which is free once that waits
             server.process.send_signal(signal.SIGTERM)
             found = second.response()
             self.assertEqual((503, "1"), (found.status, found.fields["retry-after"]))

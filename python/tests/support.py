@@ -88,6 +88,19 @@ class Case(unittest.TestCase):
             self.assertLess(time.monotonic(), end)
             time.sleep(0.01)
 
+    def wait_for_a_later_time(self) -> None:
+        """Waits until a file that is changed gets a later time than those that were changed before, whatever the steps of the clock are."""
+        probe = self.folder / "probe"
+        probe.touch()
+        before = probe.stat().st_mtime_ns
+
+        def is_later() -> bool:
+            probe.touch()
+            return probe.stat().st_mtime_ns != before
+
+        self.wait_for(is_later)
+        probe.unlink()
+
     def open(self, *paths: pathlib.Path, **arguments: Any) -> Index:
         index = Index(paths, **{"program": PROGRAM, **arguments})
         self.addCleanup(index.close)

@@ -354,7 +354,7 @@ class Resume(Runs):
             lambda: path.write_bytes(GOOD), lambda: (path.rename(self.folder / "b"), path.write_bytes(GOOD)),
             lambda: (path.write_bytes(GOOD[:-1]), os.utime(path, ns=(1, 1)), path.write_bytes(GOOD), os.utime(path, ns=(1, 1))),
         ):  # fmt: skip
-            time.sleep(0.01)  # so that the times differ
+            self.wait_for_a_later_time()
             notes.begin(0, str(path))
             change()
             notes.end(0, str(path), True)
