@@ -360,6 +360,7 @@ class Resume(Runs):
             notes.end(0, str(path), True)
             self.assertFalse(notes.has(str(path)))
         os.utime(path, ns=(1, 1))
+        self.wait_for_a_later_time()
         notes.begin(0, str(path))
         path.write_bytes(BAD)
         os.utime(path, ns=(1, 1))  # so that only the time of the inode differs
