@@ -2,6 +2,7 @@
 import contextlib
 import os
 import pathlib
+import random
 import signal
 import socket
 import threading
@@ -277,7 +278,8 @@ class Served(Case):
         folder = self.folder / "pages"
         folder.mkdir()
         archives = browse_support.Archives(folder)
-        pages = [os.urandom(10_000) for _ in range(60)]
+        noise = random.Random(1)
+        pages = [noise.randbytes(10_000) for _ in range(60)]
         archives.add("a.warc.gz", [
             browse_support.response(f"http://example.net/{n}", "2016-03-03T09:34:31Z", body, "image/png")
             for n, body in enumerate(pages)

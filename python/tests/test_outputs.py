@@ -3,6 +3,7 @@ import io
 import itertools
 import os
 import pathlib
+import random
 import subprocess
 import sys
 import time
@@ -22,7 +23,8 @@ CDX = "com,example)/ 20160919172024 http://example.com/ text/html 200 - - - 1 0 
 class Pipes(Case):
     def test_a_copy_of_a_pipe_that_ends_with_a_member_is_not_taken_for_the_archive(self) -> None:
         """The file that a pipe is copied to may not grow behind the end of each member, or in one."""
-        members = packed(*(resource(number, os.urandom(700)) for number in range(5)))
+        noise = random.Random(1)
+        members = packed(*(resource(number, noise.randbytes(700)) for number in range(5)))
         archive = self.folder / "a.warc.gz"
         archive.write_bytes(b"".join(members))
         os.mkfifo(self.folder / "pipe")

@@ -2,6 +2,7 @@
 import gzip
 import os
 import pathlib
+import random
 import threading
 import tracemalloc
 import unittest
@@ -161,7 +162,8 @@ class Archives(Case):
                 self.assertEqual([Record.read(record) for record in records], list(archive))
 
     def test_heads_and_members_may_lie_anywhere_in_what_is_read_at_once(self) -> None:
-        records = [resource(number, os.urandom(number)) for number in range(1, 200)]
+        noise = random.Random(1)
+        records = [resource(number, noise.randbytes(number)) for number in range(1, 200)]
         with mock.patch.multiple("warcdx.usual_records", _AHEAD=509, _PACKED=101):
             for archive in self.archives(*records):
                 self.assertEqual([Record.read(record) for record in records], list(archive))
