@@ -142,8 +142,14 @@ class Messages(Runs):
             (("verify", "nosuch"), "nosuch: cannot open (No such file or directory)"),
             (("verify", "."), ".: cannot open (Is a directory); name the archives in it"),
             (("cdx", "to", "."), ".: cannot open (Is a directory)"),
-            (("fetch", "--index", index, "http://example.com/0000000"), "; --archives FOLDER names the folder below which it has this path"),
-            (("fetch", "--index", ".", "http://example.com/"), ".: cannot open (Is a directory); a folder is an index if warcdx-update has made it"),
+            (
+                ("fetch", "--index", index, "http://example.com/0000000"),
+                "; --archives FOLDER names the folder below which it has this path",
+            ),
+            (
+                ("fetch", "--index", ".", "http://example.com/"),
+                ".: cannot open (Is a directory); a folder is an index if warcdx-update has made it",
+            ),
         ):
             status, _, said = self.run_on_program(*words)
             self.assertEqual((3, 1), (status, said.count("\n")), words)
