@@ -116,7 +116,7 @@ class Case(unittest.TestCase):
 
 def processes_of(index: Index) -> list[int]:
     """Returns the process IDs of an index that is idle."""
-    return [serve._process.pid for serve in list(index._idle.queue) if serve._process is not None]
+    return [serve._process.pid for serve in index._idle if serve._process is not None]
 
 
 def is_running(number: int) -> bool:

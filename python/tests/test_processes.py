@@ -2,15 +2,18 @@
 import gzip
 import os
 import pathlib
+import queue
 import signal
 import subprocess
 import sys
 import threading
 import time
 import unittest
+from types import FrameType
 from typing import Any
 
 from warcdx import Index, ProgramEnded, ProgramMissing, ProgramTooOld, ReplyTooLate
+from warcdx.query import Query
 
 from .support import ALL, PROGRAM, SAMPLES, WAIT, Case, children_of, is_running, lines, processes_of, resource
 
@@ -116,11 +119,26 @@ class Programs(Case):
         (program,) = processes_of(index)
         forked = os.fork()
         if not forked:
-            index._idle.get()
+            index._idle.pop()
             os._exit(0)
         self.assertEqual(0, os.waitpid(forked, 0)[1])
         self.assertEqual(3, index.count(ALL))
         self.assertEqual([program], processes_of(index))
+
+    def test_standard_streams_may_be_closed(self) -> None:
+        """As in a service: the files of an index have the numbers of these then."""
+        (self.folder / "archives").mkdir()
+        (self.folder / "archives/a.warc").write_bytes(resource(0) + resource(1))
+        update = (sys.executable, ROOT / "bin/warcdx-update", "--program", os.path.abspath(PROGRAM), "--quiet")
+        subprocess.run((*update, self.folder / "archives", self.folder / "index.d"), check=True)
+        code = (
+            "import os, sys\nsys.path.insert(0, sys.argv[1])\nimport warcdx\nos.closerange(0, 3)\n"
+            "with warcdx.Collection(sys.argv[2], sys.argv[3], program=sys.argv[4]) as collection:\n"
+            "    found = len(list(collection.records())), collection.index.count()\n"
+            "os._exit(found != (2, 2))\n"
+        )
+        names = (self.folder / "index.d", self.folder / "archives", os.path.abspath(PROGRAM))
+        self.assertEqual(0, subprocess.call((sys.executable, "-c", code, ROOT, *names), timeout=WAIT))
 
     def test_a_query_needs_no_temporary_file_and_no_module_of_a_command(self) -> None:
         code = (
@@ -173,10 +191,44 @@ class Programs(Case):
         index = self.open(self.put(lines(3)), program=self.script(text))
         self.assertEqual("x" * 200_000, self.raises(ProgramEnded, index.count, ALL).said)
 
+    def test_an_index_answers_after_an_interrupt_before_its_turn(self) -> None:
+        """The interrupt comes between any two lines with which a query waits for its turn, as in a notebook."""
+        index, points, at = self.open(self.put(lines(3))), 0, 1
+
+        def trace(frame: FrameType, event: str, argument: Any) -> Any:
+            nonlocal points
+            is_waiting = frame.f_code is waiting or frame.f_code.co_filename in (queue.__file__, threading.__file__)
+            points += event == "line" and is_waiting
+            if points == at:
+                raise KeyboardInterrupt
+            return trace if is_waiting else None
+
+        waiting = Index._turn.__wrapped__.__code__  # type: ignore[attr-defined]
+        while at < 100:
+            points, usual, is_whole = 0, sys.gettrace(), False
+            sys.settrace(trace)
+            try:
+                with index._turn(Query(())):
+                    sys.settrace(usual)
+                    is_whole = True
+            except KeyboardInterrupt:
+                pass
+            finally:
+                sys.settrace(usual)
+            found = list[int]()
+            thread = threading.Thread(target=lambda: found.append(index.count(ALL)), daemon=True)
+            thread.start()
+            thread.join(WAIT)
+            self.assertEqual([3], found, at)
+            if is_whole:
+                break
+            at += 1
+        self.assertGreater(at, 5)
+
     def test_an_interrupted_reply_is_not_in_the_next(self) -> None:
         index = self.open(self.put(lines(3000)))
         self.assertEqual(3000, index.count(ALL))
-        serve: Any = index._idle.queue[0]
+        serve: Any = index._idle[0]
 
         class Failing:
             """An output whose second piece can't be read, as if there were no memory for it."""

@@ -1,5 +1,6 @@
 """Queries over indexes, by runs of `warcdx serve` that are kept."""
 import contextlib
+import fcntl
 import os
 import queue
 import stat
@@ -77,7 +78,7 @@ class Index:
         names = operands(paths)
         if not names:
             raise ValueError("no index is given")
-        found = find_program(program)
+        self._program = find_program(program)
         with contextlib.ExitStack() as stack:
             self._files = _open_files(names, stack)
             self._close_files = weakref.finalize(self, stack.pop_all().close)
@@ -86,11 +87,11 @@ class Index:
         self.waits: Callable[[], None] = lambda: None  # is called while a reply is waited for, if `seconds` is given
         self._processes = processes
         self._is_closed = False
-        # The last one that was used is used next, so that no more are started than are needed. After
-        # the end it has None in their place.
-        self._idle: queue.LifoQueue[Optional[Serve]] = queue.LifoQueue()
+        self._idle: list[Serve] = []  # the last one that was used is used next, so that no more are started than are needed
+        # One for each query that may be answered at a time. This queue is one that an interrupt, as of a notebook, takes nothing from.
+        self._turns: queue.SimpleQueue[bool] = queue.SimpleQueue()
         for _ in range(processes):
-            self._idle.put(Serve(found, self._files))
+            self._turns.put(True)
 
     def captures(
         self,
@@ -244,14 +245,18 @@ class Index:
         raise TypeError("an Index isn't copied, or sent to another process; open another one there")
 
     def close(self) -> None:
-        """Ends the processes, after the queries that are being answered. A second call does nothing."""
-        if not self._is_closed:
-            self._is_closed = True
-            for serve in [self._idle.get() for _ in range(self._processes)]:
-                if serve is not None:
-                    serve.end()
-                self._idle.put(None)
+        """Ends the processes, after the queries that are being answered. A second call does nothing more."""
+        self._is_closed = True
+        taken = list[bool]()
+        try:
+            while len(taken) < self._processes:
+                taken.append(self._turns.get())
+            while self._idle:
+                self._idle.pop().end()
             self._close_files()
+        finally:
+            for turn in taken:
+                self._turns.put(turn)
 
     def __enter__(self) -> "Index":
         return self
@@ -292,17 +297,28 @@ class Index:
 
     @contextlib.contextmanager
     def _turn(self, query: Query) -> Iterator[Serve]:
-        """Yields a process that was idle, to answer a query. A refusal names its parameter."""
-        serve = self._idle.get()
+        """Yields a process that was idle, or a new one, to answer a query. A refusal names its parameter."""
+        turn, serve = False, None
         try:
-            if serve is None:
+            turn = self._turns.get()
+            if self._is_closed:
                 raise ValueError("the Index is closed")
+            serve = self._last_used()
             serve.waits = self.waits
             yield serve
         except Refused as error:
             raise refused(error.name, parameter_of(error.name, query)) from None
         finally:
-            self._idle.put(serve)
+            if serve is not None:
+                self._idle.append(serve)
+            if turn:
+                self._turns.put(turn)
+
+    def _last_used(self) -> Serve:
+        try:
+            return self._idle.pop()
+        except IndexError:
+            return Serve(self._program, self._files)
 
 
 def _fields_of(fields: Union[str, Sequence[str]]) -> tuple[str, ...]:
@@ -332,6 +348,9 @@ def _open_files(indexes: Sequence[str], stack: contextlib.ExitStack) -> Files:
             names.append(path)
             descriptor = _open(path)
             if is_folder:
+                # If a standard stream of this process is closed, the file has its number. The program has a pipe there.
+                descriptor, low = fcntl.fcntl(descriptor, fcntl.F_DUPFD_CLOEXEC, 3), descriptor
+                os.close(low)
                 stack.callback(os.close, descriptor)
                 descriptors.append(descriptor)
                 operands.append(f"/dev/fd/{descriptor}")
