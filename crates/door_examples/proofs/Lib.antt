@@ -8,3 +8,4 @@ mod ShelfQueries
 mod ShelfReports
 mod ShelfRuns
 mod ShelfWrites
+mod DiskLemmas

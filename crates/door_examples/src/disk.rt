@@ -1,10 +1,15 @@
 //! The tasks of the command line over the files of a disk that returns what was written, and that nobody changes
 //! meanwhile.
+ghost use Rattle.std.specs.List.{AllByRecursion};
 ghost use Rattle.std.specs.Prelude.{◌≡◌, ℕ, List, Some};
+ghost use Rattle.cdxj_core.specs.declared.limit.TheConstants.{LINE_LIMIT};
+ghost use Rattle.cdxj_core.specs.Indexes.{IsIndex};
+ghost use Rattle.cdxj_core.specs.Members.{Member};
 ghost use Rattle.command_line.specs.Commands.{view};
 ghost use Rattle.door_examples.specs.Archives.{a_archive};
 ghost use Rattle.door_examples.specs.Shelf.{WritesOfShelf, query_line};
 ghost use Rattle.door_examples.specs.Texts.{a_line};
+ghost use Rattle.tasks.specs.OneText.{indexes_of};
 
 use cdxj_core::index_has_one_list_of_members;
 use command_line::Task;
@@ -20,7 +25,7 @@ use scan_core::scan_writes_one_text;
 use std::alloc::Global;
 use std::io::Cursor;
 use std::rt::Runtime;
-use tasks::{Console, Opener, Outcome, perform};
+use tasks::{Console, Opener, Outcome, done_tasks_write_one_text, perform};
 use warc_core::laws::one_reading;
 
 /// A disk: the file of a name, once it is opened, is a stream of its bytes, and is read at any offset.
@@ -136,4 +141,25 @@ pub fn perform_on_disk<R: Runtime + AllocGlobal, D: Disk, O: Output>(
     replies_over_indexes_are_one();
     scan_writes_one_text();
     perform(console, files, task, out)
+}
+
+/// Performs a task over the files of two disks, and again with another output. If both end as done, and the files that
+/// the task reads as indexes are indexes, both have written the same bytes.
+pub fn perform_twice<R: Runtime + AllocGlobal, D: Disk, O: Output>(
+    console: &Console<R>,
+    files: &DiskFiles<'_, D>,
+    task: &Task,
+    out: &mut O,
+    other: &mut O,
+) -> (Outcome, Outcome)
+    ensures { AllByRecursion (λ name. (members : List Member)
+        × IsIndex LINE_LIMIT (D.bytes_of files.now.indexes.now name) members)
+        (indexes_of (view task.now))
+        → result.0 ≡ Outcome.Done → result.1 ≡ Outcome.Done
+        → (before : List ℕ) → O.written out.old ≡ Some before → O.written other.old ≡ Some before
+        → O.written out.new ≡ O.written other.new }
+{
+    done_tasks_write_one_text::<DiskFiles<'_, D>, O>(files);
+    let first = perform(console, files, task, out);
+    (first, perform(console, files, task, other))
 }
