@@ -25,6 +25,18 @@ class Paths(Shared):
 
     settings = CRAWLS
 
+    def test_each_answer_that_is_known_is_not_sent(self) -> None:
+        """Also one of columns and in an output that the program doesn't have."""
+        for path in (
+            "/main?url=example.com", "/main-index?url=example.com&output=json", "/main/index?url=example.com&resolveRevisits=true&output=json",
+            "/cdx?url=example.com&fl=timestamp,redirect", "/cdx?url=example.com&output=json&fl=url", "/cdx?url=example.com&collapse=digest&showGroupCount=true",
+            "/cdx?url=example.com&showDupeCount=true", "/cdx?url=example.com&limit=-2", "/cdx?url=example.com&closest=2016", "/cdx?url=example.com/*&page=0",
+            "/cdx?url=example.com&showNumPages=true", "/cdx?url=example.com&filter=statuscode:2..", "/cdx?url=example.com&offset=1&collapse=urlkey",
+        ):  # fmt: skip
+            first = self.server.ask(path)
+            self.assertEqual(200, first.status, path)
+            self.assertEqual((304, b""), self.server.ask(path, If_None_Match=first.fields["etag"])[::2], path)
+
     def test_wayback_machine_downloader(self) -> None:
         query = (
             "/cdx/search/xd?output=json&url=http%3A%2F%2Fexample.com%2F*&fl=timestamp%2Coriginal"

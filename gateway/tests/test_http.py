@@ -125,18 +125,6 @@ class Http(Shared):
             self.assertEqual(first.body, self.server.ask(target, **fields).body)
         self.assertEqual(400, self.server.ask("/cdx?url=a&x=1", If_None_Match=tag).status)
 
-    def test_each_answer_that_is_known_is_not_sent(self) -> None:
-        """Also one of columns and in an output that the program doesn't have."""
-        for path in (
-            "/main?url=example.com", "/main-index?url=example.com&output=json", "/main/index?url=example.com&resolveRevisits=true&output=json",
-            "/cdx?url=example.com&fl=timestamp,redirect", "/cdx?url=example.com&output=json&fl=url", "/cdx?url=example.com&collapse=digest&showGroupCount=true",
-            "/cdx?url=example.com&showDupeCount=true", "/cdx?url=example.com&limit=-2", "/cdx?url=example.com&closest=2016", "/cdx?url=example.com/*&page=0",
-            "/cdx?url=example.com&showNumPages=true", "/cdx?url=example.com&filter=statuscode:2..", "/cdx?url=example.com&offset=1&collapse=urlkey",
-        ):  # fmt: skip
-            first = self.server.ask(path)
-            self.assertEqual(200, first.status, path)
-            self.assertEqual((304, b""), self.server.ask(path, If_None_Match=first.fields["etag"])[::2], path)
-
     def test_health_and_metrics(self) -> None:
         self.assertEqual("ok\n", self.server.ask("/health").text)
         names = ("requests_total", 'refusals_total{cause="Unknown"}')

@@ -15,7 +15,7 @@ def end_with_parent(parent: int, number: int) -> None:
 
 
 def limit_memory(memory: int) -> None:
-    """Lets this process have so many bytes of address space, or fewer if it had fewer."""
+    """Bounds the address space of this process, in bytes, unless a smaller bound is there."""
     most = resource.getrlimit(resource.RLIMIT_AS)[1]
     memory = memory if most == resource.RLIM_INFINITY else min(memory, most)
     resource.setrlimit(resource.RLIMIT_AS, (memory, memory))
