@@ -44,12 +44,12 @@ request = function()
 end
 """
 NGINX = """
-daemon off; master_process off; worker_processes 1; pid {folder}/pid; error_log {folder}/errors;
+daemon off; master_process off; worker_processes 1; pid "{folder}/pid"; error_log "{folder}/errors";
 events {{ worker_connections 4000; }}
 http {{
     access_log off;
-    client_body_temp_path {folder}/1; proxy_temp_path {folder}/2; fastcgi_temp_path {folder}/3;
-    uwsgi_temp_path {folder}/4; scgi_temp_path {folder}/5;
+    client_body_temp_path "{folder}/1"; proxy_temp_path "{folder}/2"; fastcgi_temp_path "{folder}/3";
+    uwsgi_temp_path "{folder}/4"; scgi_temp_path "{folder}/5";
     {text}
 }}
 """

@@ -102,7 +102,7 @@ class Runs(Checked):
             program = self.program(f"[ $1 != check ] || {{ {rule}; }}")
             said = self.refused_start("--program", str(program), "--indexes", str(index), status=3)
             self.assertIn(f"the indexes couldn't be checked: {words}", said)
-            program = self.program(f"[ $1 != check ] || [ ! -e {self.folder}/bad ] || {{ {rule}; }}")
+            program = self.program(f"[ $1 != check ] || [ ! -e '{self.folder}/bad' ] || {{ {rule}; }}")
             server = self.start(program=program)
             bad = self.put("", "bad")
             self.replace(lines(PAGES, size=5))

@@ -101,19 +101,19 @@ class Files(Case):
         with mock.patch("time.monotonic", return_value=100.0) as clock:
             found = RulesFile(path, PROGRAM, ["main"])
             first = found.text
-            for text in ("", rule, "", rule.replace('"a"', '"b"')):
+            for text in ("", rule, "", rule.replace('"a"', '"bb"')):  # of another size: the time may be that of before
                 path.write_text(text)
                 clock.return_value += SETTLED / 2
                 found.look()
                 self.assertEqual(first, found.text)
             clock.return_value += SETTLED
             found.look()
-            self.assertIn(b'"b"', found.text)
+            self.assertIn(b'"bb"', found.text)
             path.write_text("")  # as by an editor, for which the disk has no room
             for _ in range(3):
                 clock.return_value += SETTLED
                 found.look()
-            self.assertIn(b'"b"', found.text)
+            self.assertIn(b'"bb"', found.text)
             path.write_text("rules = []\n")
             for _ in range(3):
                 clock.return_value += SETTLED

@@ -80,15 +80,15 @@ class Nginx(Case):
         for old, new in (
             ("127.0.0.1:8080", "%s:%d" % self.server.address),
             ("listen 443 ssl", f"listen 127.0.0.1:{self.port} ssl"),
-            ("/etc/ssl/certs/cdx.example.org.pem", f"{self.folder}/cert.pem"),
-            ("/etc/ssl/private/cdx.example.org.key", f"{self.folder}/key.pem"),
-            ("/etc/nginx/warcdx.users", f"{self.folder}/users"),
+            ("/etc/ssl/certs/cdx.example.org.pem", f'"{self.folder}/cert.pem"'),
+            ("/etc/ssl/private/cdx.example.org.key", f'"{self.folder}/key.pem"'),
+            ("/etc/nginx/warcdx.users", f'"{self.folder}/users"'),
         ):
             self.assertIn(old, text)
             text = text.replace(old, new)
-        folders = "".join(f"{name}_temp_path {self.folder}/{name};\n" for name in ("client_body", "proxy", "fastcgi", "uwsgi", "scgi"))
+        folders = "".join(f'{name}_temp_path "{self.folder}/{name}";\n' for name in ("client_body", "proxy", "fastcgi", "uwsgi", "scgi"))
         main = self.put(
-            f"daemon off;\nmaster_process off;\nworker_processes 1;\npid {self.folder}/pid;\nerror_log {self.folder}/errors;\n"
+            f'daemon off;\nmaster_process off;\nworker_processes 1;\npid "{self.folder}/pid";\nerror_log "{self.folder}/errors";\n'
             f"events {{}}\nhttp {{\naccess_log off;\n{folders}{text}}}\n",
             "nginx.conf",
         )
@@ -230,9 +230,9 @@ class Contained(Case):
             self.assertIn(old, site)
             site = site.replace(old, new)
         self.put(site, "site.conf")
-        folders = "".join(f"{name}_temp_path {self.folder}/{name};\n" for name in ("client_body", "proxy", "fastcgi", "uwsgi", "scgi"))
+        folders = "".join(f'{name}_temp_path "{self.folder}/{name}";\n' for name in ("client_body", "proxy", "fastcgi", "uwsgi", "scgi"))
         main = (container / "nginx-main.conf").read_text()
-        main = main.replace("/run/nginx/nginx.pid", f"{self.folder}/pid").replace("/etc/nginx/conf.d/*.conf", f"{self.folder}/site.conf")
+        main = main.replace("/run/nginx/nginx.pid", f'"{self.folder}/pid"').replace("/etc/nginx/conf.d/*.conf", f'"{self.folder}/site.conf"')
         main = main.replace("access_log off;", f"access_log off;\n{folders}")
         process = subprocess.Popen(
             (str(NGINX), "-p", self.folder, "-c", self.put(main, "nginx.conf"), "-e", "stderr"), stderr=subprocess.PIPE
