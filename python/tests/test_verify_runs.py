@@ -227,7 +227,7 @@ class Resume(Runs):
         self.assertEqual(([], [], 0), self.run_command("--quiet", "--resume", "notes", "a.warc", "./d.warc.gz"))
         times = os.stat(self.folder / "a.warc").st_mtime_ns
         self.put_bytes("a.warc", GOOD[:-20] + b"X" * 16 + GOOD[-4:])
-        os.utime(self.folder / "a.warc", ns=(times, times + 4_000_000_000))  # which every file system tells apart
+        os.utime(self.folder / "a.warc", ns=(times, times + 4_000_000_000))  # a difference that any file system keeps
         self.assertEqual(1, self.run_command(*words)[2])
         self.assertEqual(["d.warc.gz"], self.noted())
         self.put_bytes("a.warc", GOOD)
