@@ -13,7 +13,7 @@ from warcdx_gateway import checking
 from warcdx_gateway.renewing import TICK, Openings
 from warcdx_gateway.settings import CollectionSettings
 from warcdx_gateway.waiting import QUEUES
-from warcdx_gateway.workers import Sign
+from warcdx_gateway.workers import Sign, Worker
 
 from .support import LINE, PROGRAM, SAMPLE, WAIT, Case, connected, lines
 
@@ -147,6 +147,17 @@ class Clocks(Case):
 
 
 class Ends(Case):
+    def test_an_ended_worker_has_no_alarm(self) -> None:
+        """Python takes the handler away before the process has ended, and the alarm would end it, as by a fault."""
+        worker = object.__new__(Worker)
+        worker.alive, worker.sockets, worker.app, worker.PIPE = False, [], mock.MagicMock(), list(os.pipe())
+        worker.app.waiting.descriptors = worker.app.waiting.rest.return_value = []
+        signal.alarm(WAIT)
+        worker.run()
+        self.assertEqual((0.0, 0.0), signal.getitimer(signal.ITIMER_REAL))
+        for end in worker.PIPE:
+            os.close(end)
+
     def test_sigterm_waits_for_running_answers(self) -> None:
         self.put(lines(60_000, size=100))
         server = self.start()

@@ -151,6 +151,7 @@ class Worker(gunicorn.workers.sync.SyncWorker):
                 os.read(self.PIPE[0], 64)  # a byte for each signal
         for client in self.app.waiting.rest():
             self._answer(client)
+        signal.alarm(0)  # Python takes its handler away before the process has ended
 
     def _go_on(self) -> bool:
         """Answers a request that has waited, if it has a slot now or is too late."""
