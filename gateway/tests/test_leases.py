@@ -258,7 +258,7 @@ class Served(Case):
 
     def test_dear_queries_of_one_key_leave_workers_for_others(self) -> None:
         """Each is another one, so that none is known to be dear before it begins."""
-        server = self.start(head="workers = 4\nwide = 2\n")
+        server = self.start(head="workers = 4\nwide = 2\n", wait=60)
         for address in ("192.0.2.1", ""):
             with attacks.clients(server, 16, [DEAR], address) as answered:
                 self.wait_for(lambda: answered().all, "no other is answered")  # what is free is over
