@@ -20,6 +20,8 @@ from typing import Any, NamedTuple, Optional
 
 from . import ROOT as ROOT
 
+signal.signal(signal.SIGINT, signal.default_int_handler)  # a job in the background ignores it, and so would its gateways
+
 PROGRAM = os.path.abspath(shutil.which(os.environ.get("WARCDX", "warcdx")) or "warcdx")
 COMMAND = ROOT / "gateway/bin/warcdx-gateway"
 WAIT = 120  # seconds for what takes a few milliseconds, also on a busy machine
