@@ -232,7 +232,9 @@ class Contained(Case):
         self.put(site, "site.conf")
         folders = "".join(f'{name}_temp_path "{self.folder}/{name}";\n' for name in ("client_body", "proxy", "fastcgi", "uwsgi", "scgi"))
         main = (container / "nginx-main.conf").read_text()
-        main = main.replace("/run/nginx/nginx.pid", f'"{self.folder}/pid"').replace("/etc/nginx/conf.d/*.conf", f'"{self.folder}/site.conf"')
+        main = main.replace("/run/nginx/nginx.pid", f'"{self.folder}/pid"').replace(
+            "/etc/nginx/conf.d/*.conf", f'"{self.folder}/site.conf"'
+        )
         main = main.replace("access_log off;", f"access_log off;\n{folders}")
         process = subprocess.Popen(
             (str(NGINX), "-p", self.folder, "-c", self.put(main, "nginx.conf"), "-e", "stderr"), stderr=subprocess.PIPE
