@@ -18,6 +18,27 @@ from warcdx.query import Query
 from .support import ALL, PROGRAM, SAMPLES, WAIT, Case, children_of, is_running, lines, processes_of, resource
 
 ROOT = pathlib.Path(__file__).resolve().parents[1]
+# Asks an index again and again, and is interrupted as often, at any place.
+INTERRUPTED = """
+import random, signal, sys
+sys.path.insert(0, sys.argv[1])
+import warcdx
+
+def interrupt(number, frame):
+    raise KeyboardInterrupt
+
+signal.signal(signal.SIGALRM, interrupt)
+choice, index = random.Random(1), warcdx.Index(sys.argv[2], program=sys.argv[3])
+for _ in range(150):
+    try:
+        signal.setitimer(signal.ITIMER_REAL, choice.uniform(0.0002, 0.004))
+        while True:
+            index.count(limit=1)
+    except KeyboardInterrupt:
+        pass
+assert index.count() == 3
+index.close()
+"""
 
 
 class Programs(Case):
@@ -124,6 +145,10 @@ class Programs(Case):
         self.assertEqual(0, os.waitpid(forked, 0)[1])
         self.assertEqual(3, index.count(ALL))
         self.assertEqual([program], processes_of(index))
+
+    def test_an_index_answers_however_often_it_was_interrupted(self) -> None:
+        words = (sys.executable, "-c", INTERRUPTED, ROOT, self.put(lines(3)), os.path.abspath(PROGRAM))
+        self.assertEqual(0, subprocess.run(words, timeout=WAIT).returncode)
 
     def test_standard_streams_may_be_closed(self) -> None:
         """As in a service: the files of an index have the numbers of these then."""

@@ -1,6 +1,7 @@
 """Queries over indexes, by runs of `warcdx serve` that are kept."""
 import contextlib
 import fcntl
+import itertools
 import os
 import queue
 import stat
@@ -298,9 +299,10 @@ class Index:
     @contextlib.contextmanager
     def _turn(self, query: Query) -> Iterator[Serve]:
         """Yields a process that was idle, or a new one, to answer a query. A refusal names its parameter."""
-        turn, serve = False, None
+        turns, serve = list[bool](), None
         try:
-            turn = self._turns.get()
+            # One step of the interpreter, so that no interrupt comes when a turn is taken, and before it is noted.
+            turns.extend(itertools.islice(iter(self._turns.get, None), 1))
             if self._is_closed:
                 raise ValueError("the Index is closed")
             serve = self._last_used()
@@ -309,10 +311,12 @@ class Index:
         except Refused as error:
             raise refused(error.name, parameter_of(error.name, query)) from None
         finally:
-            if serve is not None:
-                self._idle.append(serve)
-            if turn:
-                self._turns.put(turn)
+            try:
+                if serve is not None:
+                    self._idle.append(serve)
+            finally:
+                for turn in turns:
+                    self._turns.put(turn)
 
     def _last_used(self) -> Serve:
         try:

@@ -123,35 +123,34 @@ class Process(subprocess.Popen[bytes]):
         super().__init__(*arguments, **options)
 
     def poll(self) -> Optional[int]:
-        if self._turn.acquire(blocking=False):
-            try:
-                self._take_status(os.WNOHANG)
-            finally:
-                self._turn.release()
+        if self._has_ended(os.WNOHANG):
+            self._take_status()
         return self.returncode
 
     def wait(self, timeout: Optional[float] = None) -> int:
-        if timeout is None:
-            with self._turn:
-                self._take_status(0)
-            return self.returncode
-        end = time.monotonic() + timeout
+        if timeout is None and self._has_ended(0):
+            self._take_status()
+        end = time.monotonic() + (timeout or 0)
         while self.poll() is None:
             if time.monotonic() > end:
-                raise subprocess.TimeoutExpired(self.args, timeout)
+                raise subprocess.TimeoutExpired(self.args, timeout or 0)
             time.sleep(_PAUSE)
         return self.returncode
 
-    def _take_status(self, options: int) -> None:
-        if self.returncode is not None:
-            return
+    def _has_ended(self, options: int) -> bool:
+        """Returns whether the program has ended, and waits for that unless these are WNOHANG. Its status stays to be taken."""
         try:
-            found, status = os.waitpid(self.pid, options)
+            return self.returncode is not None or os.waitid(os.P_PID, self.pid, os.WEXITED | os.WNOWAIT | options) is not None
         except ChildProcessError:
-            self.returncode = NO_STATUS
-        else:
-            if found:
-                self.returncode = os.waitstatus_to_exitcode(status)
+            return True
+
+    def _take_status(self) -> None:
+        with self._turn:  # which an interrupt can't leave locked
+            if self.returncode is None:
+                try:
+                    self.returncode = os.waitstatus_to_exitcode(os.waitpid(self.pid, 0)[1])
+                except ChildProcessError:
+                    self.returncode = NO_STATUS
 
 
 def start(
