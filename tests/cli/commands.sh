@@ -333,8 +333,14 @@ printf 'WARC/1.1\nWARC-Type: response\n\n' > unix.warc
 printf 'filedesc://a.arc 0.0.0.0 20000101000000 text/plain 77\n' > a.arc
 printf '<!DOCTYPE html>\n' > page.html
 printf 'WARC/0.18\r\n' > old.warc
+printf 'BZh9' > r.bz2
+printf '\3757zXZ\000' > r.xz
+printf '\377\376{\000' > wide
+printf '{"url": "http://a/"}\n' > objects
+printf '!meta {"format": "1"}\n' > headed
+printf 'com,a)/\t20200101000000\t{"url": "http://a/"}\n' > tabbed
 advises "why: no such file"         "No such file or directory (os error 2)"                            3 index missing
-advises "why: an archive of gzip"   "It is compressed by gzip: warcdx-gz indexes .warc.gz files."       1 index r.warc.gz
+advises "why: an archive of gzip"   "It is compressed by gzip: warcdx-gz reads .warc.gz files."         1 index r.warc.gz
 advises "why: not a WARC file"      "No record begins there: its first line isn't WARC/1.0 or WARC/1.1." 1 index forged
 advises "why: an archive of zstd"   "It is compressed by zstd: decompress it first."                    1 index r.warc.zst
 advises "why: LF alone"             "Its first line ends with LF alone: a WARC file has CR LF after each line of a header." 1 index unix.warc
@@ -350,8 +356,17 @@ advises "why: a cut archive"        "The archive ends within a record's header."
 advises "why: a file name twice"    "Another archive has this file name: rename one of them."           1 index r.warc folder/r.warc
 advises "why: no record"            "No record begins at this offset, or it has another length: list prints the offsets." 1 get 1 r.warc
 advises "why: a folder as an index" "It is a folder: of an index of warcdx-update, name its current/*.cdxj." 3 check folder
-advises "why: an index of gzip"     "It is compressed by gzip: decompress it first."                    1 check sorted.cdxj.gz
+advises "why: an index of gzip"     "It is compressed by gzip: decompress an index. Of an archive, warcdx-gz index makes one." 1 check sorted.cdxj.gz
 advises "why: an index of zstd"     "It is compressed by zstd: decompress it first."                    1 check r.warc.zst
+for kind in index check; do
+    advises "why: $kind of bzip2"   "It is compressed by bzip2: decompress it first."                   1 "$kind" r.bz2
+    advises "why: $kind of xz"      "It is compressed by xz: decompress it first."                      1 "$kind" r.xz
+    advises "why: $kind of UTF-16"  "It is a text in UTF-16: iconv -f UTF-16 -t UTF-8 converts it."     1 "$kind" wide
+    advises "why: $kind of ARC"     "It is an ARC file: convert it to a WARC file first."               1 "$kind" a.arc
+done
+advises "why: objects as an index"  "Its first line is a JSON object alone: in an index, a URL key and a timestamp precede it." 1 check objects
+advises "why: a header of an index" "A line that begins with ! is no capture: grep -v '^!' leaves such lines out." 1 check headed
+advises "why: tabs in an index"     "In an index a space, and no tab, follows the URL key and the timestamp." 1 check tabbed
 advises "why: HTML as an index"     "It seems to be an HTML or XML file, and not an index."             1 check page.html
 advises "why: a bad line"           "The line that begins there isn't one of a CDXJ index."             1 check forged
 advises "why: a WARC file as an index" "It is a WARC file: warcdx index makes an index of it."          1 check r.warc
@@ -359,16 +374,17 @@ advises "why: a CDX file as an index" "It is a CDX file: warcdx-cdx converts it 
 advises "why: a byte order mark before an index" "It begins with a byte order mark: remove its first 3 bytes." 1 check marked.cdxj
 advises "why: a falling index"      "The index isn't in order: LC_ALL=C sort puts its lines in order."  1 check falling.cdxj
 advises "why: 1,025 indexes"        "At most 1024 files are taken: merge the indexes of some of them first." 1 merge "${too_many[@]}"
-advises "why: an unknown parameter" "'page' isn't a parameter. A & in a URL is written as %26. The parameters are url, key, matchType, from, to, filter, is, isnot, \
-has, hasnot, limit, resumeKey, showResumeKey, fl, output and collapse. warcdx-gateway has others too." 1 query "url=a&page=0" sorted.cdxj
+parameters="A & in a URL is written as %26. The parameters are url, key, matchType, from, to, filter, is, isnot, has, hasnot, limit, resumeKey, \
+showResumeKey, fl, output and collapse. warcdx-gateway has others too."
+advises "why: an unknown parameter" "'page' isn't a parameter. $parameters"                             1 query "url=a&page=0" sorted.cdxj
 for query in "url=a&%70age=0" $'url=a&x\nwarcdx: y: fault 0 Read=1'; do
-    advises "why: $(head --lines=1 <<< "$query")" "A & in a URL is written as %26. The parameters are url, key, matchType, from, to, filter, is, isnot, has, hasnot, limit, \
-resumeKey, showResumeKey, fl, output and collapse. warcdx-gateway has others too." 1 query "$query" sorted.cdxj
+    advises "why: $(head --lines=1 <<< "$query")" "$parameters"                                         1 query "$query" sorted.cdxj
 done
 for query in http://example.com/ sorted.cdxj; do
-    advises "why: $query" "A query precedes the indexes, and a URL in it is written as url=example.com. A & in a URL is written as %26. The parameters are url, key, matchType, from, to, \
-filter, is, isnot, has, hasnot, limit, resumeKey, showResumeKey, fl, output and collapse. warcdx-gateway has others too." 1 query "$query" sorted.cdxj
+    advises "why: $query" "A query precedes the indexes, and a URL in it is written as url=example.com. $parameters" 1 query "$query" sorted.cdxj
 done
+advises "why: a ? before a query"   "A query begins behind the ? of a URL. $parameters"                 1 query "?url=a" sorted.cdxj
+advises "why: &amp; in a query"     "Write & in place of &amp;. $parameters"                            1 query "url=a&amp;limit=1" sorted.cdxj
 advises "why: standard input as an index" "An index is a file, because it is searched: write what a pipe has to a file first." 3 query url=a -
 advises "why: a pattern" "filter takes a literal text, without \\ ^ \$ . | ? * + ( ) [ ] { }. For a part of a value, write has=FIELD:TEXT, and for a \
 choice of values a query for each." \

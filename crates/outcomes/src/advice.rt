@@ -13,6 +13,16 @@ const BAD_LINE: &str = "The line that begins there isn't one of a CDXJ index.";
 
 const BYTE_ORDER_MARK: &str = "It begins with a byte order mark: remove its first 3 bytes.";
 
+const ZSTANDARD: &str = "It is compressed by zstd: decompress it first.";
+
+const BZIP2: &str = "It is compressed by bzip2: decompress it first.";
+
+const XZ: &str = "It is compressed by xz: decompress it first.";
+
+const UTF_16: &str = "It is a text in UTF-16: iconv -f UTF-16 -t UTF-8 converts it.";
+
+const ARC: &str = "It is an ARC file: convert it to a WARC file first.";
+
 /// Why an index isn't read from a pipe.
 pub const NO_PIPE: &str =
     "An index is a file, because it is searched: write what a pipe has to a file first.";
@@ -28,6 +38,17 @@ pub fn is_plain(name: &str) -> bool {
 /// Returns `true` if what isn't the name of a parameter may be a URL, or the name of a file.
 pub fn is_address(name: &str) -> bool {
     name.contains('.') || name.contains('/')
+}
+
+/// Returns what is wrong with a name that was copied with what stands before it in a URL or a page.
+pub fn pasted_advice(name: &str) -> Option<&'static str> {
+    if name.starts_with("?") {
+        Some("A query begins behind the ? of a URL.")
+    } else if name.starts_with("amp;") {
+        Some("Write & in place of &amp;.")
+    } else {
+        None
+    }
 }
 
 /// Returns which parameter of a query is refused, and what it takes.
@@ -117,20 +138,27 @@ fn member_advice(cause: Cause) -> &'static str {
 /// Returns what a file is that doesn't begin with a record, and what reads it.
 fn no_archive_advice(kind: FileKind) -> &'static str {
     match kind {
-        FileKind::Gzip => "It is compressed by gzip: warcdx-gz indexes .warc.gz files.",
+        FileKind::Gzip => "It is compressed by gzip: warcdx-gz reads .warc.gz files.",
         FileKind::Zip => {
             "It is a ZIP file, as a WACZ file is: unpack it, and index the WARC files in it."
         }
-        FileKind::Zstandard => "It is compressed by zstd: decompress it first.",
+        FileKind::Zstandard => ZSTANDARD,
+        FileKind::Bzip2 => BZIP2,
+        FileKind::Xz => XZ,
+        FileKind::Utf16 => UTF_16,
         FileKind::WarcWithLineFeeds => {
             "Its first line ends with LF alone: a WARC file has CR LF after each line of a header."
         }
-        FileKind::Arc => "It is an ARC file: convert it to a WARC file first.",
+        FileKind::Arc => ARC,
         FileKind::Cdx => "It is a CDX file: warcdx-cdx converts it to an index.",
         FileKind::ByteOrderMark => BYTE_ORDER_MARK,
-        FileKind::Index => "It seems to be an index: warcdx query reads indexes.",
+        FileKind::Index | FileKind::IndexWithTabs => {
+            "It seems to be an index: warcdx query reads indexes."
+        }
         FileKind::Markup => "It seems to be an HTML or XML file, and not a WARC file.",
-        FileKind::Warc | FileKind::Other => cause_advice(Cause::Version),
+        FileKind::Warc | FileKind::Objects | FileKind::Directive | FileKind::Other => {
+            cause_advice(Cause::Version)
+        }
     }
 }
 
@@ -191,23 +219,42 @@ pub fn index_advice<R: Runtime>(
 pub fn answer_advice<R: Runtime>(rt: &R, name: &str, fault: AnswerFault) -> Option<&'static str> {
     match fault {
         AnswerFault::Read(_source) => Some(unread_advice(rt, name)),
-        AnswerFault::BadLine(_source, 0) => Some(no_index_advice(file_kind(rt, name))),
-        AnswerFault::BadLine(_source, _offset) => Some(BAD_LINE),
+        AnswerFault::BadLine(_source, _offset) => Some(no_index_advice(file_kind(rt, name))),
         AnswerFault::OutOfOrder(_source, _offset) => Some(order_advice(file_kind(rt, name))),
         _ => None,
     }
 }
 
-/// Returns what a file is that doesn't begin with a line of an index, and what to do.
+/// Returns what a file is that has a line of no index, and what to do.
 fn no_index_advice(kind: FileKind) -> &'static str {
     match kind {
-        FileKind::Gzip => "It is compressed by gzip: decompress it first.",
-        FileKind::Zstandard => "It is compressed by zstd: decompress it first.",
-        FileKind::Warc => "It is a WARC file: warcdx index makes an index of it.",
+        FileKind::Gzip => {
+            "It is compressed by gzip: decompress an index. Of an archive, warcdx-gz index makes one."
+        }
+        FileKind::Zip => {
+            "It is a ZIP file, as a WACZ file is: unpack it, and index the WARC files in it."
+        }
+        FileKind::Zstandard => ZSTANDARD,
+        FileKind::Bzip2 => BZIP2,
+        FileKind::Xz => XZ,
+        FileKind::Warc | FileKind::WarcWithLineFeeds => {
+            "It is a WARC file: warcdx index makes an index of it."
+        }
+        FileKind::Arc => ARC,
         FileKind::Cdx => "It is a CDX file: warcdx-cdx converts it to an index.",
         FileKind::Markup => "It seems to be an HTML or XML file, and not an index.",
         FileKind::ByteOrderMark => BYTE_ORDER_MARK,
-        _ => BAD_LINE,
+        FileKind::Utf16 => UTF_16,
+        FileKind::Objects => {
+            "Its first line is a JSON object alone: in an index, a URL key and a timestamp precede it."
+        }
+        FileKind::Directive => {
+            "A line that begins with ! is no capture: grep -v '^!' leaves such lines out."
+        }
+        FileKind::IndexWithTabs => {
+            "In an index a space, and no tab, follows the URL key and the timestamp."
+        }
+        FileKind::Index | FileKind::Other => BAD_LINE,
     }
 }
 

@@ -15,6 +15,10 @@ pub enum FileKind {
     Zip,
     /// A file that zstd has compressed (RFC 8878, section 3.1.1).
     Zstandard,
+    /// A file that bzip2 has compressed.
+    Bzip2,
+    /// A file that xz has compressed.
+    Xz,
     /// A WARC file.
     Warc,
     /// A WARC file whose first line ends with LF alone.
@@ -25,8 +29,16 @@ pub enum FileKind {
     Cdx,
     /// A text after a byte order mark in UTF-8.
     ByteOrderMark,
+    /// A text in UTF-16, with its byte order mark.
+    Utf16,
+    /// A text of JSON objects, as of lines without a URL key and a timestamp.
+    Objects,
+    /// A text that begins with `!`, as the header of a CDXJ file that some tools write.
+    Directive,
     /// A CDXJ index.
     Index,
+    /// A CDXJ index with a tab before its JSON.
+    IndexWithTabs,
     /// An HTML or XML file.
     Markup,
     /// A file of none of these kinds, or what isn't a file, or can't be read.
@@ -34,12 +46,18 @@ pub enum FileKind {
 }
 
 /// With what the files of a kind begin.
-const FRONTS: [(&[u8], FileKind); 7] = [
+const FRONTS: [(&[u8], FileKind); 13] = [
     (b"\x1f\x8b", FileKind::Gzip),
     (b"PK\x03\x04", FileKind::Zip),
     (b"\x28\xb5\x2f\xfd", FileKind::Zstandard),
+    (b"BZh", FileKind::Bzip2),
+    (b"\xfd7zXZ\x00", FileKind::Xz),
     (b" CDX ", FileKind::Cdx),
     (b"\xef\xbb\xbf", FileKind::ByteOrderMark),
+    (b"\xff\xfe", FileKind::Utf16),
+    (b"\xfe\xff", FileKind::Utf16),
+    (b"{", FileKind::Objects),
+    (b"!", FileKind::Directive),
     (b"<", FileKind::Markup),
     (b"filedesc:", FileKind::Arc),
 ];
@@ -75,18 +93,20 @@ fn kind_of(front: &[u8]) -> FileKind {
             return kind;
         }
     }
-    if has_object(front) {
-        FileKind::Index
-    } else {
-        FileKind::Other
+    match str::from_utf8(front) {
+        Ok(text) => kind_of_text(text),
+        Err(_error) => FileKind::Other,
     }
 }
 
-/// Returns `true` if a JSON object begins after a space, as in a line of CDXJ.
-fn has_object(front: &[u8]) -> bool {
-    match str::from_utf8(front) {
-        Ok(text) => text.contains(" {\""),
-        Err(_error) => false,
+/// Returns the kind of a text by what is before its first JSON object.
+fn kind_of_text(text: &str) -> FileKind {
+    if text.contains(" {\"") {
+        FileKind::Index
+    } else if text.contains("\t{\"") {
+        FileKind::IndexWithTabs
+    } else {
+        FileKind::Other
     }
 }
 

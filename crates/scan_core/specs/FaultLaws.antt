@@ -25,6 +25,12 @@ BadNamesAreFirst = (types : Kind → Bool) (earlier : List (List ℕ)) (name : L
     (fault : IndexFault) → (IsNewName earlier name → ⊥) → IsFaultOfArchive types earlier name input fault
     → IsNameFault fault
 
+-- a name that is bad is never refused as an earlier one's
+abbrev pub NameFaultIsOne : Type 0
+NameFaultIsOne = (types : Kind → Bool) (earlier : List (List ℕ)) (name : List ℕ) (input : ToldArchive)
+    → IsFaultOfArchive types earlier name input index.BadName
+    → IsFaultOfArchive types earlier name input index.DuplicateName → ⊥
+
 -- the fault lies in the archive or its name, and not in memory, a device, or a key that is too long
 abbrev pub IsNoFailure : IndexFault → Type 0
 IsNoFailure (index.Capture fault) = IsNoFaultOfArchive fault → ⊥

@@ -5,6 +5,7 @@ ghost use Rattle.warc_core.specs.declared.next.TheConstants.{HEAD_LIMIT};
 ghost use Rattle.scan_core.specs.CaptureLaws.{CapturesAreNamed, CapturesHaveLines};
 ghost use Rattle.scan_core.specs.CaptureLaws.{CapturesHavePlaces, NoneIsLeftOut};
 ghost use Rattle.scan_core.specs.FaultLaws.{BadNamesAreFirst, BadSizesAreFirst, FirstFaultIsOne};
+ghost use Rattle.scan_core.specs.FaultLaws.{NameFaultIsOne};
 ghost use Rattle.scan_core.specs.Laws.{IndexIsMerge, OnlyMemoryIsWanting, RemovedIsDropped, ScanIsOne};
 ghost use Rattle.scan_core.specs.Laws.{LaterAreUnread, PackedSelectedAreFetched};
 ghost use Rattle.scan_core.specs.Laws.{RefusedReadsNothing, ScanCountsAreOne, ScanHasFront};
@@ -101,11 +102,12 @@ pub fn captures_of_archives_are_told_apart()
 {}
 
 /// A scan says that its sizes are bad before it says anything else that keeps it from writing. Of an archive it says
-/// first that its name is bad, or that an earlier one has it.
+/// first that its name is bad, or that an earlier one has it, and never both.
 #[tactic(auto, unfolding(crate::specs::Scanning::IsScanFault))]
 pub fn bad_sizes_and_names_are_said_first()
     ensures sizes { BadSizesAreFirst }
     ensures names { BadNamesAreFirst }
+    ensures one { NameFaultIsOne }
 {}
 
 /// Of archives whose bytes are known, one is the first that is damaged, has a line that is too long, or has a name that
