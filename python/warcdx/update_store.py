@@ -72,7 +72,8 @@ class Store:
     def locked(self, settings: Settings) -> Iterator[None]:
         """Keeps other processes from the folder, makes it if there is none, and removes what an ended run of the command has left.
 
-        What is made here is removed if nothing but the database was made. A folder that was there before stays.
+        What is made here is removed if nothing but the database was made. A folder that was there before stays. So does an
+        empty database where the disk took nothing, which the next run takes over: another first run may be about to fill it.
         """
         self.is_made()  # so that nothing is made in a folder that is used otherwise
         is_own = states.make_folder(self.folder)

@@ -2,6 +2,7 @@
 import contextlib
 import os
 import resource
+import selectors
 import shutil
 import signal
 import tempfile
@@ -12,7 +13,6 @@ from typing import IO, BinaryIO, NoReturn, Optional, Protocol
 from .command import FAILED, failure, report, run
 from .ending import blocked
 from .errors import Error
-from .program import memory_file
 from .streams import write_error
 
 Work = Callable[[BinaryIO], int]
@@ -32,6 +32,7 @@ class Watch(Protocol):
 
 
 BROKEN = 64  # is added to the exit status of a process whose work has failed by an exception
+_PIECE = 1 << 16  # bytes that are read at once
 _SPARE = 64  # files that each process may open besides those of the works
 
 
@@ -67,8 +68,10 @@ class _Workers:
         self._watch = watch
         self._alive = os.pipe()  # nobody writes to it: its end says that this process is gone
         self._started = 0
-        self._running: dict[int, int] = {}  # the works of processes that run, by the process IDs
-        self._parts: dict[int, tuple[IO[bytes], IO[bytes]]] = {}  # the files with the outputs and the errors of works
+        self._running: dict[int, int] = {}  # the process IDs of those that run
+        self._errors = selectors.PollSelector()  # the pipes from their standard errors
+        self._said: dict[int, bytes] = {}  # what came from there
+        self._parts: dict[int, IO[bytes]] = {}  # the files with the outputs of works
         self._most_open = resource.getrlimit(resource.RLIMIT_NOFILE)[0] - _SPARE
 
     def run_all(self, most: int, output: BinaryIO, is_in_order: bool) -> int:
@@ -77,15 +80,13 @@ class _Workers:
             number = self._next(turn if is_in_order else None, most)
             ended = self._statuses.pop(number)
             status = max(status, ended % BROKEN)
-            part, said = self._parts.pop(number)
-            with part, said:
-                if said.seek(0, os.SEEK_END) or part.seek(0, os.SEEK_END):
+            with self._parts.pop(number) as part:
+                if self._said[number] or part.seek(0, os.SEEK_END):
                     self._watch.clear()
                 part.seek(0)
                 shutil.copyfileobj(part, output)
-                output.flush()  # so that no process has a copy of what isn't written yet
-                said.seek(0)
-                write_error(said.read())
+            output.flush()  # so that no process has a copy of what isn't written yet
+            write_error(self._said.pop(number))
             if ended >= BROKEN:
                 break
             self._watch.end(number, ended)
@@ -101,46 +102,62 @@ class _Workers:
     def _start_to(self, most: int) -> None:
         """Starts processes until `most` run, or as many files are open as may be, or each work has a process."""
         while len(self._running) < most and self._started < len(self._works):
-            if self._running and 2 * len(self._parts) >= self._most_open:
+            if self._running and len(self._running) + len(self._parts) >= self._most_open:
                 break
             self._watch.begin(self._started)
             with blocked():
-                self._parts[self._started] = tempfile.TemporaryFile(buffering=0), memory_file()
-                identifier = os.fork()
-                if not identifier:
-                    self._work(self._started)
-                self._running[identifier] = self._started
+                part = self._parts[self._started] = tempfile.TemporaryFile(buffering=0)
+                self._start(self._started, part.fileno())
                 self._started += 1
 
+    def _start(self, number: int, part: int) -> None:
+        """Starts the process of a work, whose output goes to the file descriptor `part`."""
+        reading_end, writing_end = os.pipe()
+        self._errors.register(reading_end, selectors.EVENT_READ, number)
+        self._said[number] = b""
+        try:
+            identifier = os.fork()
+            if not identifier:
+                self._work(number, part, writing_end)
+        finally:
+            os.close(writing_end)
+        self._running[number] = identifier
+
     def _wait(self) -> None:
-        """Waits until a process has ended, and takes its status. One that a signal has ended is reported, and has no output."""
-        ended = os.waitid(os.P_ALL, 0, os.WEXITED | os.WNOWAIT)
-        assert ended is not None
-        with blocked():
-            status = os.waitstatus_to_exitcode(os.waitpid(ended.si_pid, 0)[1])
-            number = self._running.pop(ended.si_pid, None)
-            if number is None:
-                return  # what this process was before has started it
-            if status < 0:
-                report(self._name, f"a process has ended with signal {-status}")
-                self._parts[number][0].truncate(0)
-            self._statuses[number] = BROKEN + FAILED if status < 0 else status
+        """Reads what processes write to standard error, until one or more have written something or have ended."""
+        for pipe, _ in self._errors.select():
+            with blocked():
+                piece = os.read(pipe.fd, _PIECE)
+                self._said[pipe.data] += piece
+                if not piece:
+                    self._errors.unregister(pipe.fd)
+                    os.close(pipe.fd)
+                    self._end(pipe.data)
+
+    def _end(self, number: int) -> None:
+        """Takes the status of a process that has ended. One that a signal has ended is reported, and has no output."""
+        status = os.waitstatus_to_exitcode(os.waitpid(self._running.pop(number), 0)[1])
+        if status < 0:
+            report(self._name, f"a process has ended with signal {-status}")
+            self._parts[number].truncate(0)
+        self._statuses[number] = BROKEN + FAILED if status < 0 else status
 
     def close(self) -> None:
         """Ends the processes that run, and closes their files."""
         with blocked():
-            for part, said in self._parts.values():
+            for part in self._parts.values():
                 part.close()
-                said.close()
             for end in self._alive:
                 os.close(end)
-            for identifier in self._running:
+            for identifier in self._running.values():
                 os.kill(identifier, signal.SIGTERM)
-            for identifier in self._running:
+            for pipe in list(self._errors.get_map().values()):
+                os.close(pipe.fd)
+            for identifier in self._running.values():
                 os.waitpid(identifier, 0)
 
-    def _work(self, number: int) -> NoReturn:
-        """Does a work as a command of its own, whose standard output and error are its files."""
+    def _work(self, number: int, part: int, said: int) -> NoReturn:
+        """Does a work as a command of its own, whose standard output and error are these files."""
         status, is_done = FAILED, False
 
         def work(output: BinaryIO) -> int:
@@ -158,8 +175,8 @@ class _Workers:
             with contextlib.suppress(RuntimeError):  # there is no memory for a thread
                 threading.Thread(target=self._end_with_parent, daemon=True).start()
             signal.pthread_sigmask(signal.SIG_SETMASK, ())
-            for standard, file in enumerate(self._parts[number], 1):
-                os.dup2(file.fileno(), standard)
+            os.dup2(part, 1)
+            os.dup2(said, 2)
             status = run(self._name, work)
         finally:
             os._exit(status if is_done else BROKEN + status)
