@@ -194,21 +194,30 @@ class Serve:
                 return self._process
             self._forget(self._process)
         said = memory_file()
+        process: Optional[Process] = None
         try:
-            self._process = start(self._command, said, subprocess.PIPE, descriptors=self._files.descriptors)
-            assert self._process.stdin is not None
-            os.set_blocking(self._process.stdin.fileno(), False)
+            process = start(self._command, said, subprocess.PIPE, descriptors=self._files.descriptors)
+            assert process.stdin is not None
+            os.set_blocking(process.stdin.fileno(), False)
+            self._said = said
+            self._detach = weakref.finalize(self, _end_unused, process, said, os.getpid()).detach
+            self._process = process  # last, so that an interrupt before it leaves none
         except BaseException:
+            self._process = None
+            if process is not None:
+                process.kill()
+                close(process.stdin, process.stdout)
+                process.wait()
             said.close()
             raise
-        self._said = said
-        self._detach = weakref.finalize(self, _end_unused, self._process, said, os.getpid()).detach
-        return self._process
+        return process
 
     def _forget(self, process: Process) -> Process:
+        """Closes the files of a program. It is no one's from the first step on, so that an interrupt leaves no half of it."""
+        self._process = None
+        said, self._said = self._said, None
         self._detach()
-        close(process.stdin, process.stdout, self._said)
-        self._process = self._said = None
+        close(process.stdin, process.stdout, said)
         return process
 
 

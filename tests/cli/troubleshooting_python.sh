@@ -210,4 +210,4 @@ row "\`The index doesn't fit the archive.\`, with status 502"
 rows_of_refusals Changed
 row "\`an index in use was changed: replace indexes by mv\` on standard error"
 row "\`the old indexes stay in use\`, and \`/health\` says \`the old indexes are in use\`"
-row "\`couldn't be checked\`, \`the check of the indexes was ended\`"
+row "\`couldn't be checked\`"
