@@ -7,8 +7,6 @@ import time
 from collections.abc import Callable
 from typing import Optional
 
-from gunicorn.http.errors import NoMoreData
-
 from .refusal import Refusal
 
 FREE = 0.05  # seconds of the processor that a request has without a slot
@@ -59,6 +57,8 @@ class Connection(socket.socket):
             piece = super().recv(size)
             self.heard += piece
             if len(self.heard) > MOST_HEARD or self._has_ended and not piece:
+                from gunicorn.http.errors import NoMoreData  # which pages without a server do without
+
                 raise NoMoreData
             self._has_ended = not piece
         return piece

@@ -1,12 +1,12 @@
 """Which archives warcdx-update reads again, which faults it reports, and what it says that it passes over."""
+import contextlib
 import os
 import pathlib
 import shutil
-import signal
 import subprocess
 
 from neighbours import updated
-from update_trial import SLOW, WAIT, Trial, compressed, copy_sample, expect, merged, sample, until
+from update_trial import WAIT, Trial, compressed, copy_sample, expect, merged, sample, until
 
 
 def a_restored_archive_is_read_again(program: pathlib.Path, folder: pathlib.Path) -> None:
@@ -105,11 +105,20 @@ def what_the_machine_lacks_is_reported_each_time(program: pathlib.Path, folder: 
 
 def a_fault_is_known_once_it_was_said(program: pathlib.Path, folder: pathlib.Path) -> None:
     """A run that is killed before it says a fault leaves it to the next one, and so does one that can't say it."""
-    trial = Trial(program, folder, SLOW)
-    work = trial.start("--jobs", "4")
+    trial = Trial(program, folder)
+    reading, writing = os.pipe()
+    os.set_blocking(writing, False)
+    with contextlib.suppress(BlockingIOError):
+        while True:
+            os.write(writing, bytes(1 << 12))
+    os.set_blocking(writing, True)  # so that the run waits where it says the fault
+    command = trial.usual_command("--quiet")
+    work = subprocess.Popen(command, stdin=subprocess.DEVNULL, stdout=subprocess.DEVNULL, stderr=writing)
     until("the damaged archive", lambda: "07.warc" in trial.done)
-    work.send_signal(signal.SIGKILL)
+    work.kill()
     work.wait()
+    os.close(reading)
+    os.close(writing)
     for script in ('"$@" 2> /dev/full', '"$@" 2>&-'):
         command = ("sh", "-c", script, "sh", *trial.usual_command("--quiet"))
         expect(f"status of {script}", subprocess.run(command, timeout=WAIT).returncode, 1)
