@@ -151,3 +151,14 @@ def wait_until_caught(process: "subprocess.Popen[bytes]", number: int) -> None:
             return
         time.sleep(0.01)
     raise AssertionError("the signal isn't handled")
+
+
+def wait_until_asleep(process: "subprocess.Popen[bytes]") -> None:
+    """Waits until a process waits (Linux). A signal that comes just before, when Python has looked for one, is seen after the wait."""
+    end, looks = time.monotonic() + WAIT, 0
+    while looks < 3:
+        if process.poll() is not None or time.monotonic() > end:
+            raise AssertionError("the process doesn't wait")
+        state = pathlib.Path(f"/proc/{process.pid}/stat").read_text().rpartition(")")[2].split()[0]
+        looks = looks + 1 if state == "S" else 0
+        time.sleep(0.01)

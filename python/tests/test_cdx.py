@@ -12,7 +12,7 @@ from typing import Any
 
 from warcdx.cdx import _batches
 
-from tests.support import ENDING, PROGRAM, SAMPLES, WAIT, Case, lines, wait_until_caught
+from tests.support import ENDING, PROGRAM, SAMPLES, WAIT, Case, lines, wait_until_asleep, wait_until_caught
 
 COMMAND = pathlib.Path(__file__).resolve().parents[1] / "bin/warcdx-cdx"
 HEADER = b" CDX N b a m s k r M S V g\n"
@@ -248,6 +248,7 @@ class Both(Cdx):
                     stdin=subprocess.PIPE, stdout=subprocess.PIPE, stderr=subprocess.STDOUT, env={**os.environ, "TMPDIR": str(temporary)},
                 ) as process:  # fmt: skip
                     wait_until_caught(process, signal.SIGTERM)
+                    wait_until_asleep(process)
                     process.send_signal(number)
                     assert process.stdout is not None
                     self.assertEqual((b"", -number), (process.stdout.read(), process.wait(WAIT)))
