@@ -4,8 +4,8 @@ ghost use Rattle.std.specs.Prelude.{◌<◌, ◌≡◌, length, IfOk, IfSome};
 use capture_core::{CaptureFault, Entry, Input, Reader, Types, capture};
 use std::alloc::Global;
 
-/// Returns the capture of an archive's first record under the archive's name, or `None` if the archive has no record or
-/// the record isn't indexed.
+/// Returns the capture of an archive's first record under the archive's name, or `None` if the
+/// archive has no record or the record isn't indexed.
 ///
 /// Errors are the archive's fault, and `KeyTooLong`, `LineTooLong` and `Memory`.
 pub fn first_capture<I: Input>(

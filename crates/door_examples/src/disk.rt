@@ -1,5 +1,5 @@
-//! The tasks of the command line over the files of a disk that returns what was written, and that nobody changes
-//! meanwhile.
+//! The tasks of the command line over the files of a disk that returns what was written, and that
+//! nobody changes meanwhile.
 ghost use Rattle.std.specs.List.{AllByRecursion};
 ghost use Rattle.std.specs.Prelude.{◌≡◌, ℕ, List, Some};
 ghost use Rattle.cdxj_core.specs.declared.limit.TheConstants.{LINE_LIMIT};
@@ -28,7 +28,8 @@ use std::rt::Runtime;
 use tasks::{Console, Opener, Outcome, done_tasks_write_one_text, perform};
 use warc_core::laws::one_reading;
 
-/// A disk: the file of a name, once it is opened, is a stream of its bytes, and is read at any offset.
+/// A disk: the file of a name, once it is opened, is a stream of its bytes, and is read at any
+/// offset.
 pub trait Disk {
     ghost use Rattle.std.specs.Prelude.{◌≡◌, List, ℕ, Some, IfOk};
 
@@ -118,8 +119,9 @@ impl<'a> Disk for MemoryDisk<'a> {
     }
 }
 
-/// Performs a task over the files of two disks. If these are the archive, the index and the input of the examples, and
-/// the task ends as done, it has written the text that the examples say to an output whose bytes are known.
+/// Performs a task over the files of two disks. If these are the archive, the index and the input
+/// of the examples, and the task ends as done, it has written the text that the examples say to an
+/// output whose bytes are known.
 pub fn perform_on_disk<R: Runtime + AllocGlobal, D: Disk, O: Output>(
     console: &Console<R>,
     files: &DiskFiles<'_, D>,
@@ -143,8 +145,8 @@ pub fn perform_on_disk<R: Runtime + AllocGlobal, D: Disk, O: Output>(
     perform(console, files, task, out)
 }
 
-/// Performs a task over the files of two disks, and again with another output. If both end as done, and the files that
-/// the task reads as indexes are indexes, both have written the same bytes.
+/// Performs a task over the files of two disks, and again with another output. If both end as done,
+/// and the files that the task reads as indexes are indexes, both have written the same bytes.
 pub fn perform_twice<R: Runtime + AllocGlobal, D: Disk, O: Output>(
     console: &Console<R>,
     files: &DiskFiles<'_, D>,

@@ -14,8 +14,8 @@ use std::alloc::Global;
 
 /// Writes the index of an archive of which nothing was read, and returns the number of its lines.
 ///
-/// Errors are `BadName` for a name that isn't 1 to 255 bytes, the fault that the archive's captures end with, `Memory`,
-/// and `Write` if the output failed. Before `Write` nothing is written.
+/// Errors are `BadName` for a name that isn't 1 to 255 bytes, the fault that the archive's captures
+/// end with, `Memory`, and `Write` if the output failed. Before `Write` nothing is written.
 pub fn write_index<A: Archive, O: Output>(
     alloc: Global,
     name: &str,

@@ -20,7 +20,8 @@ pub fn key(alloc: Global, url: &str) -> Result<String, KeyFault>
     url_key(alloc, url)
 }
 
-/// Returns the line of an entry, or `None` if the entry can't be written. The line is read as the entry.
+/// Returns the line of an entry, or `None` if the entry can't be written. The line is read as the
+/// entry.
 ///
 /// Errors are `Memory`, and `LineTooLong` for more than `LINE_LIMIT` bytes.
 pub fn line(alloc: Global, entry: &Entry) -> Result<Option<Vec<u8>>, LineFault>
@@ -35,8 +36,8 @@ pub fn line(alloc: Global, entry: &Entry) -> Result<Option<Vec<u8>>, LineFault>
     Ok(Some(line))
 }
 
-/// Returns the resume key of the place with these parts, or `None` if they aren't those of a place. The key is read as the
-/// place.
+/// Returns the resume key of the place with these parts, or `None` if they aren't those of a place.
+/// The key is read as the place.
 ///
 /// The only error is `Memory`.
 pub fn resume_key(

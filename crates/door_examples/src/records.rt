@@ -7,7 +7,8 @@ use warc_core::{Fault, Head, Input, Kind, Reader};
 
 /// Returns the head of an archive's first record, or `None` if the archive is empty.
 ///
-/// The error is `Memory`, `Read` if the input failed, or the cause for which no record begins the archive.
+/// The error is `Memory`, `Read` if the input failed, or the cause for which no record begins the
+/// archive.
 pub fn first_head<I: Input>(alloc: Global, archive: &mut I) -> Result<Option<Head>, Fault>
     ensures begins { IfOk result (λ found. IfSome found (RecordBeginsAt 0)) }
 {

@@ -23,7 +23,8 @@ pub fn in_memory<'a>(
     })
 }
 
-/// Writes the pages of a query over archives of which nothing was read, of 100 captures each, and returns their number.
+/// Writes the pages of a query over archives of which nothing was read, of 100 captures each, and
+/// returns their number.
 pub fn write_pages<A: Archive, O: Output>(
     alloc: Global,
     archives: &mut [Named<A>],

@@ -20,8 +20,8 @@ use std::rt::Runtime;
 use tasks::{Console, Opener, Outcome, StandardInput, perform, run_on};
 use warc_core::laws::one_reading;
 
-/// An archive, an index and standard input in memory. All names of archives are those of the archive, and all names of
-/// indexes those of the index.
+/// An archive, an index and standard input in memory. All names of archives are those of the
+/// archive, and all names of indexes those of the index.
 #[derive(Drop)]
 pub struct Shelf<'a> {
     pub alloc: Global,
@@ -66,8 +66,8 @@ impl<'a> Opener for Shelf<'a> {
     }
 }
 
-/// Performs a task over the files of a shelf. If these are the archive, the index and the input of the examples, and the
-/// task ends as done, it has written the text that the examples say.
+/// Performs a task over the files of a shelf. If these are the archive, the index and the input of
+/// the examples, and the task ends as done, it has written the text that the examples say.
 pub fn perform_on_shelf<R: Runtime + AllocGlobal>(
     console: &Console<R>,
     shelf: &Shelf<'_>,
@@ -89,8 +89,9 @@ pub fn perform_on_shelf<R: Runtime + AllocGlobal>(
     perform(console, shelf, task, out)
 }
 
-/// Runs the program with these arguments over the files of a shelf. If these are the archive, the index and the input of
-/// the examples, and the exit status is 0, it has written the text that the examples say.
+/// Runs the program with these arguments over the files of a shelf. If these are the archive, the
+/// index and the input of the examples, and the exit status is 0, it has written the text that the
+/// examples say.
 pub fn run_on_shelf<R: Runtime + AllocGlobal>(
     console: &Console<R>,
     shelf: &Shelf<'_>,

@@ -1,4 +1,5 @@
-//! What the definitions say of small archives, indexes and queries. So none of them says nothing, and none is too strict.
+//! What the definitions say of small archives, indexes and queries. So none of them says nothing,
+//! and none is too strict.
 ghost use Rattle.door_examples.specs.Answers.{QueriesHavePages};
 ghost use Rattle.door_examples.specs.Archives.{InfoIsRead, PagesAreAccepted};
 ghost use Rattle.door_examples.specs.Scans.{TwoAreScannable, TwoAreScanned};
@@ -19,12 +20,14 @@ pub fn texts_are_read()
     ensures query { QueryIsRead }
 {}
 
-/// Queries have their pages: of a host and of a domain, of a time, with a condition, collapsed, and in json with a key.
+/// Queries have their pages: of a host and of a domain, of a time, with a condition, collapsed, and
+/// in json with a key.
 pub fn queries_have_pages()
     ensures { QueriesHavePages }
 {}
 
-/// The pages of two archives are written. Nothing is at fault, so a scan of them is refused for lack of memory alone.
+/// The pages of two archives are written. Nothing is at fault, so a scan of them is refused for
+/// lack of memory alone.
 pub fn archives_are_scanned()
     ensures written { TwoAreScanned }
     ensures premises { TwoAreScannable }

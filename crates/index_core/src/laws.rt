@@ -79,8 +79,8 @@ pub fn accepted_archive_stays_accepted()
     ensures captures { CapturesStay }
 {}
 
-/// An archive to which records or members were appended has the captures that it had, and further ones behind them: what was
-/// indexed of it needn't be indexed again.
+/// An archive to which records or members were appended has the captures that it had, and further
+/// ones behind them: what was indexed of it needn't be indexed again.
 pub fn grown_archive_keeps_its_captures()
     ensures { GrownKeepsCaptures }
 {}
@@ -136,8 +136,8 @@ pub fn list_writes_one_text()
 {}
 
 /// Unless a device fails or memory can't be allocated, `verify` returns and writes the verification
-/// of the archive. After such a failure the start of that text was written, and the fault's line. If
-/// the output failed, a prefix of this or of the whole text was written.
+/// of the archive. After such a failure the start of that text was written, and the fault's line.
+/// If the output failed, a prefix of this or of the whole text was written.
 pub fn verify_writes_one_text()
     ensures { IsReport verification }
 {}
@@ -158,7 +158,8 @@ pub fn index_writes_one_text()
     ensures writes_front { WritesIndexFront }
 {}
 
-/// What `get` writes is itself an archive: of one record, and no more. After a fault it is a front of one, or nothing.
+/// What `get` writes is itself an archive: of one record, and no more. After a fault it is a front
+/// of one, or nothing.
 pub fn fetched_record_is_an_archive()
     ensures whole { FetchedIsArchive }
     ensures front { PartIsFront }
@@ -171,8 +172,8 @@ pub fn held_captures_have_their_lines()
     ensures { SoundAreIndexed }
 {}
 
-/// What a call answers decides the counts of failures of its input and of its output. Only where the output failed, the
-/// input may have failed once or not at all. No count falls.
+/// What a call answers decides the counts of failures of its input and of its output. Only where
+/// the output failed, the input may have failed once or not at all. No count falls.
 pub fn calls_decide_counts()
     ensures index { IndexCountIsOne }
     ensures output { WriteCountIsOne }
@@ -180,9 +181,9 @@ pub fn calls_decide_counts()
     ensures rises { InputCountRises }
 {}
 
-/// No addition fails in writing or for a record that isn't there, no archive is refused for damage before it is read, no
-/// call that fetches or reports refuses a name, and no report misses a record. An index isn't written only for want of
-/// memory or where the output failed.
+/// No addition fails in writing or for a record that isn't there, no archive is refused for damage
+/// before it is read, no call that fetches or reports refuses a name, and no report misses a
+/// record. An index isn't written only for want of memory or where the output failed.
 pub fn faults_are_those_of_the_call()
     ensures add { AddFaultsAre }
     ensures refusal { RefusalsAre }

@@ -8,9 +8,9 @@ use index_core::IndexFault;
 use query_core::{AnswerFault, QueryFault};
 use warc_core::Cause;
 
-/// Returns the exit status: 0 if everything was done; 1 for a fault in an archive or an index, a refused query or name,
-/// too many indexes or archives, a digest that differs, or an offset where no record begins; 2 for a usage error; 3 if
-/// memory, a device or a file failed.
+/// Returns the exit status: 0 if everything was done; 1 for a fault in an archive or an index, a
+/// refused query or name, too many indexes or archives, a digest that differs, or an offset where
+/// no record begins; 2 for a usage error; 3 if memory, a device or a file failed.
 #[tactic(auto, unfolding(crate::specs::Outcome::exit_status_of))]
 pub fn status(outcome: &Outcome) -> u8
     ensures { result ≡ exit_status_of outcome.now }
@@ -27,8 +27,8 @@ pub fn status(outcome: &Outcome) -> u8
     }
 }
 
-/// The exit status of an outcome, and of a flush that failed or didn't, is 0 only if the outcome is `Done`, and the flush
-/// didn't fail.
+/// The exit status of an outcome, and of a flush that failed or didn't, is 0 only if the outcome is
+/// `Done`, and the flush didn't fail.
 pub fn status_zero_is_done()
     ensures { ZeroIsDone }
 {}
@@ -99,8 +99,8 @@ pub fn worse(first: Outcome, second: Outcome) -> Outcome
     }
 }
 
-/// Returns `true` if a command ends at once with this outcome, and doesn't go on to its next file. That is so if memory
-/// or the output failed.
+/// Returns `true` if a command ends at once with this outcome, and doesn't go on to its next file.
+/// That is so if memory or the output failed.
 #[tactic(auto, unfolding(crate::specs::Outcome::ends_command))]
 pub fn ends_command(outcome: &Outcome) -> bool
     ensures { result ≡ ends_command outcome.now }

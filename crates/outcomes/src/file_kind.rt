@@ -62,7 +62,8 @@ const FRONTS: [(&[u8], FileKind); 13] = [
     (b"filedesc:", FileKind::Arc),
 ];
 
-/// Returns the kind of the file of this name. Only a file is opened, because a pipe would be waited for.
+/// Returns the kind of the file of this name. Only a file is opened, because a pipe would be waited
+/// for.
 pub fn file_kind<R: Runtime>(rt: &R, name: &str) -> FileKind {
     if !is_file(rt, name) {
         return FileKind::Other;

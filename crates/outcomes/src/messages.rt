@@ -14,7 +14,8 @@ use query_core::{AnswerFault, QueryFault};
 use scan_core::ScanFault;
 use std::rt::Runtime;
 
-/// Returns the outcome of a call on the archive of this name. A fault is reported on standard error.
+/// Returns the outcome of a call on the archive of this name. A fault is reported on standard
+/// error.
 pub fn said_outcome<R: Runtime>(
     console: &Console<R>,
     name: &str,
@@ -90,7 +91,8 @@ fn say_part<R: Runtime>(console: &Console<R>, part: RefusedPart<'_>, fault: Quer
     };
 }
 
-/// Returns the outcome of a call on indexes of these names. A fault of an index is reported on standard error.
+/// Returns the outcome of a call on indexes of these names. A fault of an index is reported on
+/// standard error.
 pub fn answered_outcome<R: Runtime, T: Drop>(
     console: &Console<R>,
     names: &[String],
@@ -107,7 +109,8 @@ pub fn answered_outcome<R: Runtime, T: Drop>(
     }
 }
 
-/// Reports a fault of a call on several indexes under the name of the index concerned, if there is one.
+/// Reports a fault of a call on several indexes under the name of the index concerned, if there is
+/// one.
 fn say_source_fault<R: Runtime>(console: &Console<R>, names: &[String], fault: AnswerFault) {
     let source = match fault {
         AnswerFault::Read(source) => source,
@@ -120,7 +123,8 @@ fn say_source_fault<R: Runtime>(console: &Console<R>, names: &[String], fault: A
     }
 }
 
-/// Reports a fault of the index of this name. Memory and a failed output are reported at the command's end.
+/// Reports a fault of the index of this name. Memory and a failed output are reported at the
+/// command's end.
 pub fn say_answer_fault<R: Runtime>(console: &Console<R>, name: &str, fault: AnswerFault) {
     let (program, cause) = (console.program(), fault.name());
     match fault {
@@ -135,8 +139,8 @@ pub fn say_answer_fault<R: Runtime>(console: &Console<R>, name: &str, fault: Ans
     say_advice(console, answer_advice(console.rt, name, fault));
 }
 
-/// Reports why archives of these names couldn't be scanned. A fault of no single archive is reported at the command's
-/// end.
+/// Reports why archives of these names couldn't be scanned. A fault of no single archive is
+/// reported at the command's end.
 pub fn say_scan_fault<R: Runtime>(console: &Console<R>, names: &[String], fault: ScanFault) {
     match fault {
         ScanFault::Query(fault) => say_query_fault(console, fault),

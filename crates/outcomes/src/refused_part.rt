@@ -10,7 +10,8 @@ pub struct RefusedPart<'a> {
     pub what: &'static str,
 }
 
-/// Returns the part of the text for which a query is refused, if the fault is of one that can be named.
+/// Returns the part of the text for which a query is refused, if the fault is of one that can be
+/// named.
 pub fn refused_part(text: &str, fault: QueryFault) -> Option<RefusedPart<'_>> {
     match fault {
         QueryFault::Unknown => part(unknown_parameter(text), "isn't a parameter"),

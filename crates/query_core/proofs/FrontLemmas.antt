@@ -1,13 +1,14 @@
 -- A call that fails has written a front of what one that succeeds writes, and its answer decides the counts of failures.
-use Rattle.query_core.proofs.Words.{ℕ, ◌++◌, ◌≡◌, Appends, AppendsPrefix, List}
+use Rattle.query_core.proofs.Words.{[], ℕ, ◌++◌, ◌<◌, ◌∷◌, ◌≡◌, Appends, AppendsPrefix, List, cut_lines, length, length-append, refl}
 use Rattle.query_core.proofs.Words.{Option, QUERY_LIMIT, Some, append_assoc, arith, collection, flat_map, flat_map-append}
 use Rattle.query_core.proofs.Words.{place_cmp_total, prefix_longer, reply_of, sym}
 use Rattle.devices.specs.Device.{Grows}
+use Rattle.devices.specs.LineCuts.{HasNoLineFeed}
 use Rattle.page_core.proofs.PageLaws.{chain_one}
 use Rattle.query_core.specs.CountLaws.{AnswerCountsAreOne, ServingCountsAreOne, SourceCountIsOne}
 use Rattle.query_core.specs.Fronts.{AnswerHasFront, MergeHasFront, PagesHaveFront, RepliesHaveFront}
 use Rattle.query_core.proofs.ReplyLemmas.{replies_one}
-use Rattle.query_core.specs.{OneText.ConversationIsOne, Replies.marked_reply}
+use Rattle.query_core.specs.{OneText.ConversationIsOne, OneText.TakenIsOne, Replies.marked_reply}
 
 -- ---- fronts
 
@@ -42,6 +43,36 @@ conversation_one told input old new new' number number' (small, counted, texts, 
     these indexes known are =
     let one = replies_one told _ texts each these indexes known are in
     let other = replies_one told _ texts' each' these indexes known are in
+    grind arith
+
+-- ---- what was taken of an input that failed
+
+cut_some : (b : ℕ) (bs : List ℕ) → 0 < length (cut_lines (b ∷ bs))
+cut_some b bs = grind arith
+
+-- a part of a line before a text is one with the text's first
+part_joins : (part left : List ℕ) → HasNoLineFeed part → (left ≡ [] → ⊥)
+    → length (cut_lines (part ++ left)) ≡ length (cut_lines left)
+part_joins [] left none some = refl
+part_joins (b ∷ part) [] none some = absurd (some refl)
+part_joins (b ∷ part) (c ∷ left) none some =
+    grind (arith, part_joins part (c ∷ left), cut_some c left)
+
+front_same : (us vs us' vs' : List (List ℕ)) → us ++ vs ≡ us' ++ vs' → length vs ≡ length vs' → us ≡ us'
+front_same [] vs [] vs' same even = refl
+front_same [] vs (u ∷ us') vs' same even = grind (arith, length-append)
+front_same (u ∷ us) vs [] vs' same even = grind (arith, length-append)
+front_same (u ∷ us) vs (u' ∷ us') vs' same even = grind (arith, front_same us vs us' vs')
+
+pub taken_one : TakenIsOne
+taken_one told input left old new new' short some (ls, later, texts, cut, behind, each, wrote)
+    (ls', later', texts', cut', behind', each', wrote') these indexes known are =
+    let one = behind short in
+    let other = behind' short in
+    let as_many : length later ≡ length later' = grind (arith, part_joins) in
+    let same = front_same ls later ls' later' (grind arith) as_many in
+    let these_texts = replies_one told _ texts each these indexes known are in
+    let those_texts = replies_one told _ texts' each' these indexes known are in
     grind arith
 
 -- ---- counts

@@ -6,6 +6,9 @@ pub mod ReachLemmas
 pub mod PagesReach
 pub mod ReplyLemmas
 pub mod FrontLemmas
+pub mod RefusalLemmas
+pub mod ReachLawLemmas
+pub mod PartLemmas
 pub mod ComposeLemmas
 pub mod PageIndexes
 pub mod DropLemmas

@@ -19,6 +19,9 @@ pub mod MergeLaws
 pub mod OneText
 pub mod Fronts
 pub mod CountLaws
+pub mod RefusalLaws
+pub mod ReachLaws
+pub mod PartLaws
 pub mod PageLines
 pub mod NothingAsked
 pub mod Replies

@@ -1,5 +1,5 @@
 -- Of the same lines, and over a known output, a call that succeeds writes one text.
-use Rattle.std.specs.Prelude.{◌≡◌, ℕ, List, flat_map, Option, Some, Ok}
+use Rattle.std.specs.Prelude.{◌≡◌, ℕ, ◌-◌, ◌^◌, ◌<◌, List, [], length, flat_map, Option, Some, Ok}
 use Rattle.std.specs.List.{AllZip}
 use Rattle.cdxj_core.specs.Members.{Member}
 use Rattle.query_text.specs.declared.query.TheConstants.{QUERY_LIMIT}
@@ -10,7 +10,7 @@ use Rattle.query_core.specs.declared.fault.AnswerFault.{AnswerFault}
 use Rattle.query_core.specs.declared.report.Report.{Report}
 use Rattle.query_core.specs.Answering.{WritesAnswer}
 use Rattle.query_core.specs.AnyReplies.{IsTextReply}
-use Rattle.query_core.specs.Conversations.{Converses, IsMarkedReply}
+use Rattle.query_core.specs.Conversations.{Converses, IsMarkedReply, RepliedToTaken}
 use Rattle.query_core.specs.Paging.{WritesPages}
 use Rattle.query_core.specs.Replies.{marked_reply, reply_of}
 
@@ -42,3 +42,11 @@ ConversationIsOne = (told : List (Option (List ℕ))) (input old : List ℕ) (ne
     (number number' : ℕ) → Converses QUERY_LIMIT (IsTextReply told) (Ok number) (Some input) (Some old) new
     → Converses QUERY_LIMIT (IsTextReply told) (Ok number') (Some input) (Some old) new'
     → OverIndexes told (λ _ _. (new ≡ new') × (number ≡ number'))
+
+-- where the input failed within it, what was written is decided by what is left of it
+abbrev pub TakenIsOne : Type 0
+TakenIsOne = (told : List (Option (List ℕ))) (input left old : List ℕ) (new new' : Option (List ℕ))
+    → length input < 2 ^ 63 - 1 → (left ≡ [] → ⊥)
+    → RepliedToTaken QUERY_LIMIT (IsTextReply told) (Some input) (Some left) (Some old) new
+    → RepliedToTaken QUERY_LIMIT (IsTextReply told) (Some input) (Some left) (Some old) new'
+    → OverIndexes told (λ _ _. new ≡ new')

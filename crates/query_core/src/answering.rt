@@ -17,20 +17,22 @@ use query_text::Query;
 use source_core::Source;
 use std::alloc::Global;
 
-/// Writes the page that the query asks for: the captures that it selects from the collection of the indexes, in the
-/// order of places, after its resume key and up to its limit. The page ends with the resume key of the next page if the
-/// query shows it and a further capture follows. If the query collapses captures, a capture is left out whose part is
-/// that of the capture before it. The first capture after a resume key is left out if its part is that of the key's
-/// place.
+/// Writes the page that the query asks for: the captures that it selects from the collection of the
+/// indexes, in the order of places, after its resume key and up to its limit. The page ends with
+/// the resume key of the next page if the query shows it and a further capture follows. If the
+/// query collapses captures, a capture is left out whose part is that of the capture before it. The
+/// first capture after a resume key is left out if its part is that of the key's place.
 ///
-/// Returns `TooManySources` for more than `SOURCES_LIMIT` indexes, before it reads or writes. `BadLine` and
-/// `OutOfOrder` name a line because of which the text is not an index; only the lines that are read are checked. `Read`
-/// names the index that failed, `Write` comes at the output's first failure, and `Memory` if memory could not be
-/// allocated. After an error, a prefix of the page was written.
+/// Returns `TooManySources` for more than `SOURCES_LIMIT` indexes, before it reads or writes.
+/// `BadLine` and `OutOfOrder` name a line because of which the text is not an index; only the lines
+/// that are read are checked. `Read` names the index that failed, `Write` comes at the output's
+/// first failure, and `Memory` if memory could not be allocated. After an error, a prefix of the
+/// page was written.
 ///
-/// A binary search finds where the page begins in each index. From there on, lines of the target's range are read, up
-/// to the key and stamp of the first capture after the page, and at most one more line of each index. Each capture is
-/// written before a line is read that stands behind the next key and stamp of its index.
+/// A binary search finds where the page begins in each index. From there on, lines of the target's
+/// range are read, up to the key and stamp of the first capture after the page, and at most one
+/// more line of each index. Each capture is written before a line is read that stands behind the
+/// next key and stamp of its index.
 #[tactic(auto, using(crate::proofs::PagesReach::answer_rules))]
 pub fn answer<S: Source, O: Output>(
     alloc: Global,

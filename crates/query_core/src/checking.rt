@@ -22,10 +22,11 @@ fn falls_after(previous: &Option<Box<Line>>, line: &Line) -> bool
 
 /// Checks an index, and returns the number of its lines.
 ///
-/// Each line must have an entry, and its key and stamp must not be below those of the line before it. At most two lines
-/// are held.
+/// Each line must have an entry, and its key and stamp must not be below those of the line before
+/// it. At most two lines are held.
 ///
-/// Errors are `Memory`, `Read`, and for the first line at fault `BadLine` or `OutOfOrder`, all of index 0.
+/// Errors are `Memory`, `Read`, and for the first line at fault `BadLine` or `OutOfOrder`, all of
+/// index 0.
 pub fn check<S: Source>(alloc: Global, source: &mut S) -> Result<u64, AnswerFault>
     ensures kept { KeepsSource S.Source source.old source.new }
     ensures checked { IsChecked (S.text source.old) (S.extent source.old) result }

@@ -2,7 +2,8 @@
 use std::alloc::AllocError;
 use thiserror::Error;
 
-/// Why a call on indexes failed. Indexes are counted from 0; offsets are in bytes from an index's start.
+/// Why a call on indexes failed. Indexes are counted from 0; offsets are in bytes from an index's
+/// start.
 #[derive(Clone, Copy, Debug, Drop, PartialEq, Eq, Error)]
 pub enum AnswerFault {
     /// Memory could not be allocated.
@@ -17,7 +18,8 @@ pub enum AnswerFault {
     /// The line at this offset of this index has no entry, or is too long.
     #[error("a bad line at {1} of index {0}")]
     BadLine(usize, u64),
-    /// The key and stamp of the line at this offset of this index are below those of the line before it.
+    /// The key and stamp of the line at this offset of this index are below those of the line
+    /// before it.
     #[error("the line at {1} of index {0} is out of order")]
     OutOfOrder(usize, u64),
     /// There are more than 1,024 indexes.

@@ -16,13 +16,14 @@ use std::alloc::Global;
 /// The greatest number of indexes that a call accepts.
 pub const SOURCES_LIMIT: usize = 1_024;
 
-/// Merges indexes: writes their lines in the order of places, each as it stands in its index, only the first line at
-/// each place. Returns the number of lines written.
+/// Merges indexes: writes their lines in the order of places, each as it stands in its index, only
+/// the first line at each place. Returns the number of lines written.
 ///
-/// Returns `TooManySources` for more than `SOURCES_LIMIT` indexes, before it reads or writes. `BadLine` and `OutOfOrder`
-/// name a line because of which the text is not an index. If there are several, which one is named is not specified.
-/// `Read` names the index that failed, `Write` comes at the output's first failure, and `Memory` if memory could not be
-/// allocated. After an error, lines that rise by place were written, the last of them in whole or in part.
+/// Returns `TooManySources` for more than `SOURCES_LIMIT` indexes, before it reads or writes.
+/// `BadLine` and `OutOfOrder` name a line because of which the text is not an index. If there are
+/// several, which one is named is not specified. `Read` names the index that failed, `Write` comes
+/// at the output's first failure, and `Memory` if memory could not be allocated. After an error,
+/// lines that rise by place were written, the last of them in whole or in part.
 ///
 /// One line of each index is held, and the lines of one key and stamp.
 #[tactic(auto, using(crate::proofs::PageIndexes::merge_rules))]

@@ -50,7 +50,8 @@ fn key_text(
     }
 }
 
-/// Shows that the resume key of this place, if there is one, is read as the place. Nothing else is done.
+/// Shows that the resume key of this place, if there is one, is read as the place. Nothing else is
+/// done.
 fn key_is_read(place: Option<&OwnedPlace>)
     ensures { IfSome (option_map (λ p. p.now) place.entry) IsReadBack }
 {
@@ -63,8 +64,8 @@ fn key_is_read(place: Option<&OwnedPlace>)
     }
 }
 
-/// Writes what follows the last capture of a page, with the resume key of this place if it is to be shown and there is
-/// one.
+/// Writes what follows the last capture of a page, with the resume key of this place if it is to be
+/// shown and there is one.
 #[tactic(auto, using(devices::proofs::WritingLemmas::writes_nothing))]
 fn put_end<O: Output>(
     alloc: Global,
@@ -94,8 +95,8 @@ pub(crate) struct PageEnd {
     pub count: u64,
 }
 
-/// Writes one page of a query, or all, from the lines that it takes in the order of places. If it writes all, a page
-/// ends where a further capture follows, with which the next page begins.
+/// Writes one page of a query, or all, from the lines that it takes in the order of places. If it
+/// writes all, a page ends where a further capture follows, with which the next page begins.
 #[derive(Drop)]
 pub(crate) struct PageWriter<'q> {
     selection: Selection<'q>,
@@ -126,9 +127,9 @@ impl<'q> PageWriter<'q> {
     ghost use Rattle.query_core.specs.WriterView.{Broke, GaveOne, HasRoom, IsEndOf, IsWriterOf};
     ghost use Rattle.query_core.specs.WriterView.{KeepsLines, SamePage, TakesMore, Wrote};
 
-    /// Writes what precedes the first capture of a page of at most `limit` captures, or of pages of these sizes if there
-    /// are any. Then `limit` is the first of them.
-    /// Errors are `Memory`, and `Write` if the output failed.
+    /// Writes what precedes the first capture of a page of at most `limit` captures, or of pages of
+    /// these sizes if there are any. Then `limit` is the first of them. Errors are `Memory`, and
+    /// `Write` if the output failed.
     #[tactic(auto, using(devices::proofs::WritingLemmas::wrote_nothing))]
     pub fn begin<O: Output>(
         alloc: Global,
@@ -245,8 +246,8 @@ impl<'q> PageWriter<'q> {
         Ok(())
     }
 
-    /// Writes what follows the last capture, with the resume key if the query shows it and a further page follows.
-    /// Errors are `Memory`, and `Write` if the output failed.
+    /// Writes what follows the last capture, with the resume key if the query shows it and a
+    /// further page follows. Errors are `Memory`, and `Write` if the output failed.
     pub fn end<O: Output>(&mut self, alloc: Global, out: &mut O) -> Result<PageEnd, WriteFault>
         ensures text { WritesText result (O.written out.old) (O.written out.new)
             (page_end (form_of self.old.selection.query.now)

@@ -18,17 +18,19 @@ use query_text::Query;
 use source_core::Source;
 use std::alloc::Global;
 
-/// Writes the pages of a query, each of its size, until no page follows, and returns their number. The last size is
-/// repeated. Each page goes on where the page before ended. The first begins after the query's own resume key, if it has
-/// one. Each page but the last ends with its resume key. The query's limit isn't used, nor whether it shows a resume key.
+/// Writes the pages of a query, each of its size, until no page follows, and returns their number.
+/// The last size is repeated. Each page goes on where the page before ended. The first begins after
+/// the query's own resume key, if it has one. Each page but the last ends with its resume key. The
+/// query's limit isn't used, nor whether it shows a resume key.
 ///
-/// The indexes are searched once, and each line of the target's range is read once, whatever the sizes. A page ends when
-/// its next capture is read. Each capture is written before a line is read that stands behind the next key and stamp of
-/// its index.
+/// The indexes are searched once, and each line of the target's range is read once, whatever the
+/// sizes. A page ends when its next capture is read. Each capture is written before a line is read
+/// that stands behind the next key and stamp of its index.
 ///
-/// Returns `BadSizes` if there are no sizes, or one of them is 0; then `TooManySources` for more than `SOURCES_LIMIT`
-/// indexes. Both come before it reads or writes. The other errors are those of `answer`: `BadLine`, `OutOfOrder`, `Read`,
-/// `Write` and `Memory`. After one, a prefix of the pages was written.
+/// Returns `BadSizes` if there are no sizes, or one of them is 0; then `TooManySources` for more
+/// than `SOURCES_LIMIT` indexes. Both come before it reads or writes. The other errors are those of
+/// `answer`: `BadLine`, `OutOfOrder`, `Read`, `Write` and `Memory`. After one, a prefix of the
+/// pages was written.
 #[tactic(auto, using(crate::proofs::PagesReach::pages_rules))]
 pub fn pages<S: Source, O: Output>(
     alloc: Global,

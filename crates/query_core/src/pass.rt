@@ -28,8 +28,8 @@ pub struct Pass {
     pub held: u64,
 }
 
-/// Passes the lines of the query's range to the sink, in the order of places, from its resume key on, until it wants no
-/// more.
+/// Passes the lines of the query's range to the sink, in the order of places, from its resume key
+/// on, until it wants no more.
 #[tactic(auto, using(crate::proofs::PageIndexes::pass_rules))]
 pub(crate) fn read_lines<S: Source, K: Sink, O: Output>(
     alloc: Global,

@@ -33,7 +33,8 @@ pub(crate) fn put_refusal<O: Output>(
     put_text(text.as_bytes(), out)
 }
 
-/// Writes, after what was written of a page, the name of a fault, the number of the index, and the offset of the line.
+/// Writes, after what was written of a page, the name of a fault, the number of the index, and the
+/// offset of the line.
 #[tactic(auto, using(devices::proofs::WritingLemmas::wrote_nothing))]
 pub(crate) fn put_fault_line<O: Output>(
     alloc: Global,

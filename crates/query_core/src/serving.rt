@@ -18,8 +18,8 @@ use query_text::{QUERY_LIMIT, Query, QueryFault};
 use source_core::Source;
 use std::alloc::Global;
 
-/// The number of bytes of a line that are held. They show that a line exceeds the limit of a query, whether or not it
-/// ends with a carriage return.
+/// The number of bytes of a line that are held. They show that a line exceeds the limit of a query,
+/// whether or not it ends with a carriage return.
 const LINE_HELD: usize = QUERY_LIMIT + 2;
 
 /// Writes the page of a query. A fault of an index is written after what was written of the page.
@@ -102,17 +102,19 @@ fn reply_and_mark<S: Source, O: Output>(
 
 /// Answers the queries of an input, one on each line, and returns the number of lines.
 ///
-/// A line ends with a line feed, which the last line may lack. A carriage return before it is dropped. The reply to a
-/// line is the page of its query, or `refused` and the name of the refusal: `QueryTooLong` for more than `QUERY_LIMIT`
-/// bytes, and `NotText` if the line isn't UTF-8. If a line is found because of which a text is not an index, what was
-/// written is followed by a line feed, and `fault` with the name of the fault, the number of the index and the offset
-/// of the line. Each reply is followed by a line `.`, which is passed to the output in a call of its own.
+/// A line ends with a line feed, which the last line may lack. A carriage return before it is
+/// dropped. The reply to a line is the page of its query, or `refused` and the name of the refusal:
+/// `QueryTooLong` for more than `QUERY_LIMIT` bytes, and `NotText` if the line isn't UTF-8. If a
+/// line is found because of which a text is not an index, what was written is followed by a line
+/// feed, and `fault` with the name of the fault, the number of the index and the offset of the
+/// line. Each reply is followed by a line `.`, which is passed to the output in a call of its own.
 ///
-/// The indexes are read for each query as `answer` reads them. A line is read when the reply before it was written.
+/// The indexes are read for each query as `answer` reads them. A line is read when the reply before
+/// it was written.
 ///
-/// Returns `TooManySources` for more than `SOURCES_LIMIT` indexes, before it reads. `Memory`, `Read` of an index, `Write`
-/// and `Input` end the conversation. `Input` comes if the input failed, and for an input of 2^63 - 1 bytes. Then each line
-/// that was taken whole has its reply.
+/// Returns `TooManySources` for more than `SOURCES_LIMIT` indexes, before it reads. `Memory`,
+/// `Read` of an index, `Write` and `Input` end the conversation. `Input` comes if the input failed,
+/// and for an input of 2^63 - 1 bytes. Then each line that was taken whole has its reply.
 #[tactic(auto, using(crate::proofs::ReplyLemmas::serve_rules))]
 pub fn serve<S: Source, I: Input, O: Output>(
     alloc: Global,
@@ -132,7 +134,8 @@ pub fn serve<S: Source, I: Input, O: Output>(
     ensures taken { result ≡ Err AnswerFault.Input →
         RepliedToTaken QUERY_LIMIT (IsTextReply (map S.text sources.old))
         (I.remaining input.old) (I.remaining input.new) (O.written out.old) (O.written out.new) }
-    // Each source gives no more than the queries may take of the lines that were answered, and of one more.
+    // Each source gives no more than the queries may take of the lines that were answered, and of
+    // one more.
     ensures bytes { OverIndexes (map S.text sources.old) (λ texts indexes.
         GaveForLines S.Source QUERY_LIMIT (IsTextReply (map S.text sources.old))
         (I.remaining input.old) texts indexes (O.written out.old) (O.written out.new) sources.old

@@ -34,7 +34,8 @@ fn index_of(alloc: Global, indexer: &Indexer) -> Result<Gather, IndexFault>
     }
 }
 
-/// Indexes an archive. The indexer holds no captures before or after, and the names of the archives up to this one.
+/// Indexes an archive. The indexer holds no captures before or after, and the names of the archives
+/// up to this one.
 fn index_archive<A: Archive>(
     alloc: Global,
     indexer: &mut Indexer,

@@ -63,16 +63,17 @@ fn write_pages<O: Output>(
     pages(alloc, &mut sources, query, sizes, out)
 }
 
-/// Writes the pages of a query over archives, and returns their number. The records of these types are indexed in
-/// memory, each archive into its own index. The captures have the archives' names as file names. The pages are those of
-/// `pages` over these indexes. The sizes are in captures, and the last size is repeated. The query's limit isn't used,
-/// nor whether it shows a resume key.
+/// Writes the pages of a query over archives, and returns their number. The records of these types
+/// are indexed in memory, each archive into its own index. The captures have the archives' names as
+/// file names. The pages are those of `pages` over these indexes. The sizes are in captures, and
+/// the last size is repeated. The query's limit isn't used, nor whether it shows a resume key.
 ///
-/// Errors, in this order: `Answer(BadSizes)` if there are no sizes, or one of them is 0; `Query` for a text that is
-/// refused; `Answer(TooManySources)` for more than `SOURCES_LIMIT` archives. Then, archive by archive, `Archive`:
-/// `BadName` and `DuplicateName` before the archive is read, then the fault that its captures end with, and `Memory` if
-/// memory could not be allocated. Up to here nothing was written. Then `Answer(Memory)`, and `Answer(Write)` at the
-/// output's first failure: a prefix of the pages was written.
+/// Errors, in this order: `Answer(BadSizes)` if there are no sizes, or one of them is 0; `Query`
+/// for a text that is refused; `Answer(TooManySources)` for more than `SOURCES_LIMIT` archives.
+/// Then, archive by archive, `Archive`: `BadName` and `DuplicateName` before the archive is read,
+/// then the fault that its captures end with, and `Memory` if memory could not be allocated. Up to
+/// here nothing was written. Then `Answer(Memory)`, and `Answer(Write)` at the output's first
+/// failure: a prefix of the pages was written.
 #[tactic(auto, unfolding(crate::specs::Scanning::IsScanFault, crate::specs::Scanning::LeavesUnread))]
 pub fn scan<A: Archive, O: Output>(
     alloc: Global,

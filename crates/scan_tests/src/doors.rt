@@ -3,7 +3,7 @@ use capture_core::{CaptureFault, Entry};
 use cdxj_core::{KeyFault, PlaceFault};
 use command_line::Task;
 use door_examples::captures::first_capture;
-use door_examples::disk::{DiskFiles, MemoryDisk, perform_on_disk};
+use door_examples::disk::{DiskFiles, MemoryDisk, perform_on_disk, perform_twice};
 use door_examples::indexes::write_index;
 use door_examples::lines::{key, line, resume_key};
 use door_examples::queries::{PageFault, page, page_of_two};
@@ -217,7 +217,7 @@ fn tasks_on_indexes_write_their_texts(rt: HostRuntime) -> Result<(), Fail> {
     Ok(())
 }
 
-/// Performs the task over the same bytes as files that are read at a position.
+/// Performs the task over the same bytes as files that are read at a position, and then again.
 fn writes_from_disk(rt: &HostRuntime, task: &Task, text: &[u8]) -> bool {
     let console = Console::new(rt, Program::Warcdx);
     let files = DiskFiles {
@@ -228,7 +228,13 @@ fn writes_from_disk(rt: &HostRuntime, task: &Task, text: &[u8]) -> bool {
     };
     let mut out = Gather::new(rt.alloc());
     let outcome = perform_on_disk(&console, &files, task, &mut out);
-    matches!(outcome, Outcome::Done) && out.bytes() == text
+    let (mut first, mut second) = (Gather::new(rt.alloc()), Gather::new(rt.alloc()));
+    let again = perform_twice(&console, &files, task, &mut first, &mut second);
+    matches!(outcome, Outcome::Done)
+        && matches!(again, (Outcome::Done, Outcome::Done))
+        && out.bytes() == text
+        && first.bytes() == text
+        && second.bytes() == text
 }
 
 #[test]

@@ -2,8 +2,8 @@
 ghost use Rattle.std.specs.Prelude.{◌≡◌};
 ghost use Rattle.tasks.specs.Indexing.{archive_name, bytes_of_name, file_name};
 
-/// Returns the name under which an archive is indexed: its file name, or for standard input that of the name that is
-/// given to it.
+/// Returns the name under which an archive is indexed: its file name, or for standard input that of
+/// the name that is given to it.
 pub fn archive_name<'a>(input: Option<&'a str>, name: &'a str) -> &'a str
     ensures { result.now ≡ archive_name (bytes_of_name input.entry) name.now }
 {

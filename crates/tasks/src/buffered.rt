@@ -5,8 +5,9 @@ use crate::flush::Flush;
 use std::io::{self, BufWriter, Write};
 use warc_core::{DeviceFault, Output};
 
-/// A buffered writer of `std` as an output. Its bytes are those of the writer, as far as these are known, unless it
-/// hands on replies. If the writer returns `Ok(0)` for a piece that isn't empty, the write fails.
+/// A buffered writer of `std` as an output. Its bytes are those of the writer, as far as these are
+/// known, unless it hands on replies. If the writer returns `Ok(0)` for a piece that isn't empty,
+/// the write fails.
 #[derive(Drop)]
 pub struct Buffered<W: Write + Drop> {
     writer: BufWriter<W>,

@@ -16,7 +16,8 @@ use query_core::{AnswerFault, Source, check};
 use std::rt::Runtime;
 use warc_core::{Output, put};
 
-/// Checks each index, and writes the number of its lines. Faults of an index are reported on standard error.
+/// Checks each index, and writes the number of its lines. Faults of an index are reported on
+/// standard error.
 pub fn check_all<R: Runtime + AllocGlobal, F: Opener, O: Output>(
     console: &Console<R>,
     files: &F,

@@ -11,8 +11,8 @@ use query_core::serve;
 use std::rt::Runtime;
 use warc_core::{Input, Output};
 
-/// Answers the queries of an input over the indexes of these names. All indexes are opened before a line is read.
-/// Faults are reported on standard error.
+/// Answers the queries of an input over the indexes of these names. All indexes are opened before a
+/// line is read. Faults are reported on standard error.
 pub fn serve_all<R: Runtime + AllocGlobal, F: Opener, I: Input, O: Output>(
     console: &Console<R>,
     files: &F,

@@ -5,8 +5,9 @@ ghost use Rattle.outcomes.specs.declared.outcome.Outcome.TheVariants.{Done};
 
 use outcomes::{Outcome, ends_command, worse};
 
-/// Calls `act` for each name in turn, with the state that the calls share. Continues after a fault of a file, unless
-/// memory or the output failed. Returns the outcome that ended it, or else the worst.
+/// Calls `act` for each name in turn, with the state that the calls share. Continues after a fault
+/// of a file, unless memory or the output failed. Returns the outcome that ended it, or else the
+/// worst.
 pub fn with_each<S, F: Fn(&mut S, &str) -> Outcome>(
     names: &[String],
     state: &mut S,

@@ -15,8 +15,8 @@ use outcomes::{Console, Outcome, said_outcome};
 use std::rt::Runtime;
 use warc_core::Output;
 
-/// Writes the record that begins at the offset of the archive of this name; `-` is standard input. With a length, only
-/// a record of this length, and without reading what precedes it as records.
+/// Writes the record that begins at the offset of the archive of this name; `-` is standard input.
+/// With a length, only a record of this length, and without reading what precedes it as records.
 pub fn fetch<R: Runtime + AllocGlobal, F: Opener, O: Output>(
     console: &Console<R>,
     files: &F,

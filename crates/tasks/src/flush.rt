@@ -19,9 +19,10 @@ pub trait Flush: Output {
         ensures bytes { Keeps (Self.written self.old) (Self.written self.new) }
         ensures failures { CountsFailure result (Self.failures self.old) (Self.failures self.new) };
 
-    /// Hands on each reply at once from now on, for a client that waits for it. A reply ends with a piece that is a
-    /// single line feed, or that ends with `.` and one. If a reply can't be handed on, the write of that piece fails. Of
-    /// an output with a buffer no bytes may be known then, since a write that fails has written none.
+    /// Hands on each reply at once from now on, for a client that waits for it. A reply ends with a
+    /// piece that is a single line feed, or that ends with `.` and one. If a reply can't be handed
+    /// on, the write of that piece fails. Of an output with a buffer no bytes may be known then,
+    /// since a write that fails has written none.
     fn hand_on_replies(&mut self)
         ensures bytes { KeepsOrTellsNothing (Self.written self.old) (Self.written self.new) }
         ensures failures { Self.failures self.new ≡ Self.failures self.old };

@@ -15,9 +15,9 @@ use outcomes::{Console, Outcome, ends_command, said_outcome};
 use std::rt::Runtime;
 use warc_core::Output;
 
-/// Writes one index of the archives' records of these types. `input` is the name of standard input. An archive that
-/// can't be read to its end is indexed up to the fault. If memory failed before the index is written, nothing is
-/// written.
+/// Writes one index of the archives' records of these types. `input` is the name of standard input.
+/// An archive that can't be read to its end is indexed up to the fault. If memory failed before the
+/// index is written, nothing is written.
 pub fn index_all<R: Runtime + AllocGlobal, F: Opener, O: Output>(
     console: &Console<R>,
     files: &F,

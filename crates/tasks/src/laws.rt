@@ -1,4 +1,5 @@
-//! Laws of the definitions that the contracts cite. These functions do nothing: each law is a contract.
+//! Laws of the definitions that the contracts cite. These functions do nothing: each law is a
+//! contract.
 ghost use Rattle.std.specs.Prelude.{◌≡◌, ℕ, List, Option, Some, Result, Ok, Err};
 ghost use Rattle.command_line.specs.Commands.{Meaning, Refusal, Usage};
 ghost use Rattle.outcomes.specs.declared.outcome.Outcome.{Outcome};
@@ -21,8 +22,8 @@ use query_core::{
 };
 use scan_core::scan_writes_one_text;
 
-/// What a task promises over the bytes that its archives and standard input may have, it also promises if no bytes of
-/// them are told.
+/// What a task promises over the bytes that its archives and standard input may have, it also
+/// promises if no bytes of them are told.
 #[tactic(auto, using(crate::proofs::UntoldLemmas::performs_untold))]
 pub fn promises_hold_untold<F: Opener, O>(files: &F)
     ensures { (task : Meaning) → (outcome : Outcome) → (written : O → Option (List ℕ))
@@ -44,8 +45,8 @@ pub fn opened_files_are_no_fault<F: Opener, O>(files: &F)
         → ⊥ }
 {}
 
-/// A task over files that are all opened first writes nothing if one of them can't be opened, and no task writes anything
-/// if its query is refused.
+/// A task over files that are all opened first writes nothing if one of them can't be opened, and
+/// no task writes anything if its query is refused.
 pub fn refused_tasks_write_nothing<F: Opener, O>(files: &F)
     ensures unopened { (task : Meaning) → (written : O → Option (List ℕ)) → (old new : O)
         → OpensAllFirst task
@@ -59,9 +60,9 @@ pub fn refused_tasks_write_nothing<F: Opener, O>(files: &F)
         → written new ≡ written old }
 {}
 
-/// The files decide what a task that is done has written, if their bytes are known, and what it reads as indexes are
-/// indexes. So whoever runs it again over them, and sees it done, has the same bytes. That is said of the exit status 0
-/// too, but for a conversation, which hands on each reply.
+/// The files decide what a task that is done has written, if their bytes are known, and what it
+/// reads as indexes are indexes. So whoever runs it again over them, and sees it done, has the same
+/// bytes. That is said of the exit status 0 too, but for a conversation, which hands on each reply.
 pub fn done_tasks_write_one_text<F: Opener, O>(files: &F)
     ensures done { (task : Meaning) → (written : O → Option (List ℕ)) → (before : List ℕ)
         → (here this there that : O)
@@ -93,8 +94,8 @@ pub fn done_tasks_write_one_text<F: Opener, O>(files: &F)
     scan_writes_one_text();
 }
 
-/// The exit status 0 says that what was asked was done, and flushed. Arguments that can't be read never end with it, and
-/// write nothing. Unless the status is 3, no write has failed.
+/// The exit status 0 says that what was asked was done, and flushed. Arguments that can't be read
+/// never end with it, and write nothing. Unless the status is 3, no write has failed.
 pub fn exit_status_says_what_was_done<F: Opener, O>(files: &F)
     ensures zero { (words : Result Meaning Refusal) → (written flushed : O → Option (List ℕ))
         → (failures : O → ℕ) → (old new : O)

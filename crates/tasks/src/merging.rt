@@ -11,8 +11,8 @@ use query_core::merge;
 use std::rt::Runtime;
 use warc_core::Output;
 
-/// Merges the indexes. All of them are opened before the first is read. Faults of an index are reported on standard
-/// error.
+/// Merges the indexes. All of them are opened before the first is read. Faults of an index are
+/// reported on standard error.
 pub fn merge_all<R: Runtime + AllocGlobal, F: Opener, O: Output>(
     console: &Console<R>,
     files: &F,

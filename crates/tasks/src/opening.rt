@@ -37,7 +37,8 @@ impl<I: Input + Drop> ArchiveOver<I> for AnyArchive<I> {
     }
 }
 
-/// What opens archives and indexes by name. The contracts of the commands are stated over the bytes that it opens.
+/// What opens archives and indexes by name. The contracts of the commands are stated over the bytes
+/// that it opens.
 pub trait Opener {
     /// An archive.
     type Archive: Fetch + Drop;
@@ -63,14 +64,15 @@ pub trait Opener {
     /// That the index of a name couldn't be opened, or its size couldn't be determined.
     ghost index_failed: { Self → List ℕ → Type 0 };
 
-    /// Opens the archive of this name; `-` is standard input. Reports on standard error that it can't be opened.
+    /// Opens the archive of this name; `-` is standard input. Reports on standard error that it
+    /// can't be opened.
     fn open_archive(&self, name: &str) -> Result<Self::Archive, Outcome>
         ensures { MatchResult result
             (λ archive. OpensAs (tells_archive self.now name.now) (Self.Archive.state archive))
             (IsUnopened (archive_failed self.now name.now)) };
 
-    /// Opens the index of this name. Reports on standard error that it can't be opened, or that its size can't be
-    /// determined.
+    /// Opens the index of this name. Reports on standard error that it can't be opened, or that its
+    /// size can't be determined.
     fn open_index(&self, name: &str) -> Result<Self::Index, Outcome>
         ensures { MatchResult result
             (λ index. Self.Index.text index ≡ index_bytes self.now name.now)
@@ -81,8 +83,8 @@ pub trait Opener {
         ensures { tells_input self.now (Self.Lines.remaining result) };
 }
 
-/// Opens the indexes of these names, in their order. Returns the outcome of the first that can't be opened, if there is
-/// one.
+/// Opens the indexes of these names, in their order. Returns the outcome of the first that can't be
+/// opened, if there is one.
 pub fn open_indexes<F: Opener>(
     alloc: Global,
     files: &F,
@@ -106,7 +108,8 @@ pub fn open_indexes<F: Opener>(
 /// The bytes that are remembered of all indexes of a conversation together.
 const REMEMBERED: usize = 8_388_608;
 
-/// Opens the indexes of these names so, for many searches: each remembers the lines at which their first steps look.
+/// Opens the indexes of these names so, for many searches: each remembers the lines at which their
+/// first steps look.
 pub fn open_remembering<F: Opener>(
     alloc: Global,
     files: &F,

@@ -28,11 +28,12 @@ use warc_core::{DeviceFault, Output, put};
 
 const MEMORY: Outcome = Outcome::Index(IndexFault::Memory);
 
-/// Runs the program with these arguments over these files, and returns its exit status. Its output is `out`, and it
-/// reports faults on standard error.
+/// Runs the program with these arguments over these files, and returns its exit status. Its output
+/// is `out`, and it reports faults on standard error.
 ///
-/// The status is 0 only if the task of the arguments ended as done, or they asked for help, and all of the output was
-/// flushed. It is 2 if they can't be read, and 3 if the output couldn't be flushed, or memory failed before the task.
+/// The status is 0 only if the task of the arguments ended as done, or they asked for help, and all
+/// of the output was flushed. It is 2 if they can't be read, and 3 if the output couldn't be
+/// flushed, or memory failed before the task.
 pub fn run_on<R: Runtime + AllocGlobal, F: Opener, O: Flush>(
     console: &Console<R>,
     words: &[String],
@@ -59,7 +60,8 @@ pub fn run_on<R: Runtime + AllocGlobal, F: Opener, O: Flush>(
     }
 }
 
-/// Reports on standard error that the program waits for a terminal, if no argument names an archive.
+/// Reports on standard error that the program waits for a terminal, if no argument names an
+/// archive.
 fn say_terminal<R: Runtime>(console: &Console<R>, words: &[String], input: StandardInput) {
     if words.is_empty() && input == StandardInput::Terminal {
         let program = console.program();
@@ -119,8 +121,8 @@ fn put_and_flush<O: Flush>(out: &mut O, bytes: &[u8]) -> Result<(), DeviceFault>
     out.flush()
 }
 
-/// Reports on standard error what failed at a command's end, if anything did, with the system's reason if the output
-/// did. Returns the exit status.
+/// Reports on standard error what failed at a command's end, if anything did, with the system's
+/// reason if the output did. Returns the exit status.
 fn end<R: Runtime, O: Flush>(console: &Console<R>, outcome: Outcome, out: &O) -> u8
     ensures { result ≡ exit_status_of outcome }
 {

@@ -11,7 +11,8 @@ use query_core::{Query, answer, pages};
 use std::rt::Runtime;
 use warc_core::Output;
 
-/// Writes the page that the query text asks for over the indexes of these names. Faults are reported on standard error.
+/// Writes the page that the query text asks for over the indexes of these names. Faults are
+/// reported on standard error.
 pub fn answer_query<R: Runtime + AllocGlobal, F: Opener, O: Output>(
     console: &Console<R>,
     files: &F,
@@ -57,8 +58,8 @@ fn open_and_answer<R: Runtime + AllocGlobal, F: Opener, O: Output>(
     }
 }
 
-/// Writes all pages of the query text, each of its size. The last size is repeated. Faults are reported on standard
-/// error.
+/// Writes all pages of the query text, each of its size. The last size is repeated. Faults are
+/// reported on standard error.
 pub fn write_pages<R: Runtime + AllocGlobal, F: Opener, O: Output>(
     console: &Console<R>,
     files: &F,

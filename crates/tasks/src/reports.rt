@@ -26,7 +26,8 @@ pub enum ArchiveReport {
     Verdicts,
 }
 
-/// Writes the report on each archive. If there are several archives, each report stands under the name of its archive.
+/// Writes the report on each archive. If there are several archives, each report stands under the
+/// name of its archive.
 pub fn report_on<R: Runtime + AllocGlobal, F: Opener, O: Output>(
     console: &Console<R>,
     files: &F,
@@ -51,7 +52,8 @@ pub fn report_on<R: Runtime + AllocGlobal, F: Opener, O: Output>(
     )
 }
 
-/// Writes the report on an archive, unless it couldn't be opened. `among` is the number of archives.
+/// Writes the report on an archive, unless it couldn't be opened. `among` is the number of
+/// archives.
 fn report_on_opened<A: Archive + Drop, O: Output>(
     name: &str,
     among: usize,

@@ -20,8 +20,9 @@ use std::alloc::{AllocError, Global};
 use std::rt::Runtime;
 use warc_core::Output;
 
-/// Writes the pages of the query text over the captures of these archives' records of these types. Each page has its
-/// size, and the last size is repeated. `input` is the name of standard input. Faults are reported on standard error.
+/// Writes the pages of the query text over the captures of these archives' records of these types.
+/// Each page has its size, and the last size is repeated. `input` is the name of standard input.
+/// Faults are reported on standard error.
 pub fn scan_all<R: Runtime + AllocGlobal, F: Opener, O: Output>(
     console: &Console<R>,
     files: &F,
@@ -68,8 +69,8 @@ fn open_and_scan<R: Runtime + AllocGlobal, F: Opener, O: Output>(
     }
 }
 
-/// Opens the archives of these arguments, under the names under which they are indexed. Returns the outcome of the
-/// first that can't be opened, if there is one.
+/// Opens the archives of these arguments, under the names under which they are indexed. Returns the
+/// outcome of the first that can't be opened, if there is one.
 fn open_archives<F: Opener>(
     alloc: Global,
     files: &F,

@@ -1,6 +1,7 @@
 //! What joins the program to the system: its files, its arguments, its standard output.
 //!
-//! The contracts say nothing of these. What the program does with any files, arguments and output is `run_on`.
+//! The contracts say nothing of these. What the program does with any files, arguments and output
+//! is `run_on`.
 ghost use Rattle.std.specs.Prelude.{◌≡◌, None, ⊤, IfErr};
 ghost use Rattle.tasks.specs.Opening.{IsUnopened};
 
@@ -26,7 +27,8 @@ const OUTPUT_ROOM: usize = 65_536;
 // The bytes of an argument that are looked at: Linux has no longer file names.
 const ARGUMENT_ROOM: usize = 4_096;
 
-/// Runs `warcdx` with the arguments of the system, over its files and standard output. Returns the exit status.
+/// Runs `warcdx` with the arguments of the system, over its files and standard output. Returns the
+/// exit status.
 pub fn run_warcdx<R: Runtime<File = File> + AllocGlobal>(rt: &R, input: StandardInput) -> u8 {
     run::<R, PlainArchive<SystemInput<R>>>(&Console::new(rt, Program::Warcdx), input)
 }
@@ -71,8 +73,8 @@ fn say_not_utf8<R: Runtime>(rt: &R) {
     let _ = eprintln!(rt; "\n\nFor more information, try '--help'.");
 }
 
-/// Returns the number of the first argument that isn't UTF-8, counted from 1. Arguments longer than the buffer are
-/// passed over.
+/// Returns the number of the first argument that isn't UTF-8, counted from 1. Arguments longer than
+/// the buffer are passed over.
 fn first_not_utf8<R: Runtime>(rt: &R) -> Option<usize> {
     let mut buffer = [0; ARGUMENT_ROOM];
     for number in 1..usize::MAX {
@@ -94,15 +96,15 @@ fn words<R: Runtime + AllocGlobal>(rt: &R) -> io::Result<Vec<String>> {
     Ok(env::args(rt)?.skip(1).collect(rt.alloc())?)
 }
 
-/// An archive of the system, as it is read: standard input, or a file. The reader of standard input has a large buffer.
-/// It is apart, so that an archive is small where it is moved.
+/// An archive of the system, as it is read: standard input, or a file. The reader of standard input
+/// has a large buffer. It is apart, so that an archive is small where it is moved.
 pub type SystemInput<R> = Either<
     FromRead<Box<<R as io::Input>::Reader>>,
     FromFile<SystemFile<<R as Files>::File>>,
 >;
 
-/// The files of the system, with archives of this type. The contracts don't know their bytes, nor what becomes of an
-/// opening.
+/// The files of the system, with archives of this type. The contracts don't know their bytes, nor
+/// what becomes of an opening.
 #[derive(Drop)]
 pub struct System<'a, R, A> {
     console: &'a Console<'a, R>,
@@ -197,8 +199,8 @@ fn open_file<R: Runtime + AllocGlobal>(
     }
 }
 
-/// Reports on standard error why a file can't be opened: the system's reason, that indexes aren't read from a pipe, or
-/// that a query is one argument.
+/// Reports on standard error why a file can't be opened: the system's reason, that indexes aren't
+/// read from a pipe, or that a query is one argument.
 fn say_why<R: Runtime>(rt: &R, name: &str, error: &io::Error) {
     let _ = match name {
         "-" => eprintln!(rt; "  {NO_PIPE}"),
