@@ -81,6 +81,16 @@ of_update() { # OPTION
         "For more information, try '--help'."
 }
 
+of_query() { # OPTION
+    lines "error: unexpected option '$1'" "" "  tip: the parameters of a query stand in its text, as 'url=example.com&limit=5'" "" \
+        "For more information, try '--help'."
+}
+
+no_command() { # OPTION
+    lines "error: unexpected option '$1'" "" "  tip: a command is written without '-', as in 'list FILE'" "" \
+        "For more information, try '--help'."
+}
+
 misplaced_name() { # OPTION
     lines "error: unexpected option '$1'" "" "  tip: '--name NAME' stands once, directly after 'index', 'scan' or their '--types TYPES'" "" \
         "For more information, try '--help'."
@@ -165,6 +175,10 @@ check "-o"                              "" "$(to_file -o)"                 2 ind
 check "--output"                        "" "$(to_file --output)"           2 index m.warc --output m.cdxj
 check "--jobs"                          "" "$(of_update --jobs)"           2 index --jobs 4 m.warc
 check "-r"                              "" "$(of_update -r)"               2 index -r folder
+check "--limit"                         "" "$(of_query --limit)"           2 query --limit 5 url=a a.cdxj
+check "--from"                          "" "$(of_query --from)"            2 query url=a a.cdxj --from 2016
+check "--type"                          "" "$(misplaced --type)"           2 index --type response m.warc
+check "--list"                          "" "$(no_command --list)"          2 --list m.warc
 check "--types behind -h"               "" "$(misplaced --types)"         2 index -h --types metadata m.warc
 for length in "" x +1 -1 1.5 0x10 9223372036854775808 00000000000000000001; do
     if [ "$length" = -1 ]; then continue; fi # an option

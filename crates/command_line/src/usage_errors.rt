@@ -109,7 +109,7 @@ fn with_tip(alloc: Global, what: &str, word: &str, tip: &str) -> WordsFault
 fn tip_for(option: &str) -> &'static str {
     if has_value(option) {
         "an option and its value are two arguments, as '--types response'"
-    } else if option.starts_with("--types") {
+    } else if option.starts_with("--type") {
         "'--types TYPES' stands once, directly after 'index' or 'scan'"
     } else if option.starts_with("--length") {
         "'--length LENGTH' stands once, directly after 'get'"
@@ -121,11 +121,49 @@ fn tip_for(option: &str) -> &'static str {
         "the output is standard output: write '> FILE' behind the command"
     } else if matches!(option, "-j" | "--jobs" | "-r" | "--recursive") {
         "'warcdx-update' indexes folders, several archives at a time"
+    } else if is_of_query(option) {
+        "the parameters of a query stand in its text, as 'url=example.com&limit=5'"
+    } else if is_command(option) {
+        "a command is written without '-', as in 'list FILE'"
     } else if is_negative(option) {
         "an offset, a length and a size are numbers without '-'"
     } else {
         "a file whose name begins with '-' is written './-name'"
     }
+}
+
+/// Returns `true` for what other programs take as an option, and a query takes as a parameter.
+fn is_of_query(option: &str) -> bool {
+    matches!(
+        option,
+        "--url"
+            | "--from"
+            | "--to"
+            | "--limit"
+            | "--filter"
+            | "--fl"
+            | "--fields"
+            | "--match-type"
+            | "--matchType"
+            | "--collapse"
+            | "--sort"
+            | "--json"
+    )
+}
+
+fn is_command(option: &str) -> bool {
+    matches!(
+        option,
+        "--list"
+            | "--verify"
+            | "--get"
+            | "--index"
+            | "--merge"
+            | "--check"
+            | "--query"
+            | "--serve"
+            | "--scan"
+    )
 }
 
 fn is_negative(option: &str) -> bool {

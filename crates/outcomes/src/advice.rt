@@ -2,6 +2,7 @@
 use crate::console::Console;
 use crate::file_kind::{FileKind, file_kind, is_file, is_folder};
 use crate::outcome::Outcome;
+use crate::refused_part::is_parameter_with_value;
 use capture_core::CaptureFault;
 use command_line::Program;
 use index_core::IndexFault;
@@ -24,11 +25,24 @@ const UTF_16: &str = "It is a text in UTF-16: iconv -f UTF-16 -t UTF-8 converts 
 const ARC: &str = "It is an ARC file: convert it to a WARC file first.";
 
 /// Why an index isn't read from a pipe.
-pub const NO_PIPE: &str =
+const NO_PIPE: &str =
     "An index is a file, because it is searched: write what a pipe has to a file first.";
 
-/// What to do with a part of a query that was passed as a file.
-pub const ONE_QUERY: &str = "A query is one argument, with & between its parameters.";
+/// Returns why a file of this name can't be opened, if it isn't the name of one. `is_missing` says
+/// whether there is no such file.
+pub fn unopened_advice(name: &str, is_missing: bool) -> Option<&'static str> {
+    if name == "-" {
+        Some(NO_PIPE)
+    } else if is_parameter_with_value(name) {
+        Some("A query is one argument, with & between its parameters.")
+    } else if is_missing && name.contains("://") {
+        Some("It is a URL: download the file first.")
+    } else if is_missing && name.contains('*') {
+        Some("No file has a name of this pattern.")
+    } else {
+        None
+    }
+}
 
 /// Returns `true` if a name has no escape, and no byte that a terminal may take for another line.
 pub fn is_plain(name: &str) -> bool {
@@ -82,7 +96,8 @@ pub fn query_advice(fault: QueryFault) -> &'static str {
         QueryFault::NoUrl => "A query has a url or a key, such as url=example.com.",
         QueryFault::UrlAndKey => "A query has a url or a key, and not both.",
         QueryFault::BadUrl => {
-            "url isn't a URL, or not one of the web where matchType is host or domain. A % is written as %25, a & as %26."
+            "url isn't a URL, or not one of the web where matchType is host or domain. A % is written as \
+             %25, a & as %26. key=&matchType=prefix selects all captures."
         }
         QueryFault::QueryTooLong => "A query has at most 65536 bytes.",
         QueryFault::BadCollapse =>

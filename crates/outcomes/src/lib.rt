@@ -12,11 +12,10 @@ mod messages;
 mod outcome;
 mod refused_part;
 
-pub use crate::advice::{NO_PIPE, ONE_QUERY, end_advice, unread_advice};
+pub use crate::advice::{end_advice, unopened_advice, unread_advice};
 pub use crate::console::Console;
 pub use crate::exit_status::{ends_command, status, status_zero_is_done, worse};
 pub use crate::messages::{
     answered_outcome, said_outcome, say_advice, say_answer_fault, say_refusal, say_scan_fault,
 };
 pub use crate::outcome::{Outcome, flushed_outcome, message, outcome_of, verification_outcome};
-pub use crate::refused_part::is_parameter_with_value;

@@ -12,7 +12,7 @@ use crate::standard_input::StandardInput;
 use command_line::Program;
 use either::Either;
 use index_core::{AnyArchive, IndexFault, PlainArchive};
-use outcomes::{Console, NO_PIPE, ONE_QUERY, Outcome, is_parameter_with_value, unread_advice};
+use outcomes::{Console, Outcome, unopened_advice, unread_advice};
 use query_core::{AnswerFault, FileSource};
 use std::env::{self, Env, FillError};
 use std::fs::{File, Files};
@@ -199,13 +199,12 @@ fn open_file<R: Runtime + AllocGlobal>(
     }
 }
 
-/// Reports on standard error why a file can't be opened: the system's reason, that indexes aren't
-/// read from a pipe, or that a query is one argument.
+/// Reports on standard error why a file can't be opened, or what its name is.
 fn say_why<R: Runtime>(rt: &R, name: &str, error: &io::Error) {
-    let _ = match name {
-        "-" => eprintln!(rt; "  {NO_PIPE}"),
-        _ if is_parameter_with_value(name) => eprintln!(rt; "  {ONE_QUERY}"),
-        _ => eprintln!(rt; "  {error}"),
+    let is_missing = error.kind() == ErrorKind::NotFound;
+    let _ = match unopened_advice(name, is_missing) {
+        Some(advice) => eprintln!(rt; "  {advice}"),
+        None => eprintln!(rt; "  {error}"),
     };
 }
 
