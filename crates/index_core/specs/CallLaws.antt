@@ -1,14 +1,19 @@
 -- Laws of how calls end, which failures they count, and what they write of a record.
-use Rattle.std.specs.Prelude.{◌≡◌, ◌⊎◌, ℕ, ◌≤◌, ◌^◌, ◌-◌, List, [], ◌∷◌, ◌++◌, length, map, Option, Some, Result, Ok, Err}
+use Rattle.std.specs.List.{AllByRecursion}
+use Rattle.std.specs.Prelude.{◌≡◌, ◌⊎◌, Bool, ℕ, ◌+◌, ◌≤◌, ◌^◌, ◌-◌, List, [], ◌∷◌, ◌++◌, length, map, Option, Some, Result, Ok, Err}
 use Rattle.cdxj_core.specs.Entries.{EntryValue}
 use Rattle.cdxj_core.specs.Indexes.{IsIndex}
 use Rattle.cdxj_core.specs.Members.{entry_member}
 use Rattle.capture_core.specs.declared.fault.CaptureFault.{CaptureFault}
+use Rattle.archives.specs.Packing.{Packing, form_of}
+use Rattle.capture_core.specs.CaptureAnswer.{Limits}
+use Rattle.capture_core.specs.Fault.{fault_offset}
 use Rattle.warc_core.specs.HeadView.{HeadView}
+use Rattle.warc_core.specs.Kind.{Kind}
 use Rattle.warc_core.specs.Walk.{AreRecords}
 use Rattle.index_core.specs.declared.fault.IndexFault.{IndexFault}
 use Rattle.index_core.specs.declared.fault.IndexFault.TheVariants as faults
-use Rattle.index_core.specs.Adding.{IsAddFault, IsRefusal}
+use Rattle.index_core.specs.Adding.{Gains, IsAddFault, IsRefusal}
 use Rattle.index_core.specs.Counting.{CountsIndex, CountsIndexWrite, CountsInput}
 use Rattle.index_core.specs.Fetching.{IsFetchFault}
 use Rattle.index_core.specs.Indexing.{AreSound, IsWriteFault, in_places, index_text}
@@ -80,3 +85,11 @@ abbrev pub SoundAreIndexed : Type 0
 SoundAreIndexed = (limit : ℕ) (names : List (List ℕ)) (captures : List EntryValue) → AreSound limit names captures
     → IsIndex limit (index_text captures) (map entry_member (in_places captures))
     × (length (in_places captures) ≡ length captures)
+
+-- ---- captures before a fault
+
+-- over any bytes, what was added before a fault ends by the fault's offset
+abbrev pub AddedEndByFault : Type 0
+AddedEndByFault = (types : Kind → Bool) (limits : Limits) (packing : Packing) (name : List ℕ) (left : Option (List ℕ))
+    (captures : List EntryValue) (fault : CaptureFault) → Gains types limits (form_of packing) name left captures (Err fault)
+    → AllByRecursion (λ e. e.offset + e.length ≤ fault_offset fault) captures

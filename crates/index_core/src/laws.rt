@@ -1,6 +1,7 @@
 //! Laws of the definitions that the contracts cite. These functions do nothing: each law is a
 //! contract.
-ghost use Rattle.index_core.specs.CallLaws.{AddFaultsAre, FetchFaultsAre, FetchedIsArchive};
+ghost use Rattle.index_core.specs.CallLaws.{AddFaultsAre, AddedEndByFault, FetchFaultsAre};
+ghost use Rattle.index_core.specs.CallLaws.{FetchedIsArchive};
 ghost use Rattle.index_core.specs.CallLaws.{IndexCountIsOne, InputCountIsOne, InputCountRises};
 ghost use Rattle.index_core.specs.CallLaws.{PartIsFront, RefusalsAre, ReportFaultsAre};
 ghost use Rattle.index_core.specs.CallLaws.{SoundAreIndexed, WriteCountIsOne, WriteFaultsAre};
@@ -166,6 +167,12 @@ pub fn fetched_record_is_an_archive()
 {
     reading_and_spelling();
 }
+
+/// Over any bytes, the captures that an addition has added before a fault end by the fault's offset.
+#[tactic(auto, using(crate::proofs::CallLemmas::added_end))]
+pub fn added_captures_end_by_the_fault()
+    ensures { AddedEndByFault }
+{}
 
 /// The index of the captures that an indexer holds is an index, and has a line for each of them.
 pub fn held_captures_have_their_lines()

@@ -29,8 +29,9 @@ pub use crate::fetch::Fetch;
 pub use crate::indexer::Indexer;
 pub use crate::laws::{
     accepted_archive_is_not_refused, accepted_archive_is_whole, accepted_archive_stays_accepted,
-    archive_has_one_list_of_captures, archive_is_one_list_of_records, both_forms_of_get_agree,
-    calls_decide_counts, captures_have_their_archives_name, captures_stand_at_their_offsets,
+    added_captures_end_by_the_fault, archive_has_one_list_of_captures,
+    archive_is_one_list_of_records, both_forms_of_get_agree, calls_decide_counts,
+    captures_have_their_archives_name, captures_stand_at_their_offsets,
     faults_are_those_of_the_call, fetched_record_is_an_archive, get_writes_one_text,
     grown_archive_keeps_its_captures, held_captures_have_their_lines, index_writes_one_text,
     list_writes_one_text, one_thing_stands_at_an_offset, packed_archive_is_its_members,

@@ -13,7 +13,10 @@ use Rattle.merge_core.specs.declared.fault.FeedFault.{FeedFault}
 use Rattle.merge_core.specs.declared.fault.FeedFault.TheVariants as feed
 use Rattle.query_core.specs.Conversions.{fault_of_index}
 use Rattle.query_core.specs.declared.fault.AnswerFault.TheVariants as answer
-use Rattle.query_core.specs.CheckLaws.{CheckedIsText, IsCheckedText}
+use Rattle.query_core.specs.CheckLaws.{CheckFaultIsOfLine, CheckedIsText, IsCheckedText}
+use Rattle.query_core.specs.IndexFaults.{IfTold}
+use Rattle.query_core.proofs.Words.{map, suc, zero}
+use Rattle.source_core.specs.LinesAtFault.{IsBadLine, IsOutOfOrder}
 use Rattle.query_core.specs.Checking.{AreCheckedTo, EndsOutOfOrder, FallsAfter, IsChecked, IsLastOf}
 use Rattle.merge_core.proofs.InputLemmas.{falls_last, falls_push}
 
@@ -143,3 +146,47 @@ module _ (text : List ℕ) where
 
 pub checked_is_text : CheckedIsText
 checked_is_text = checked_text
+
+-- ---- a fault as other calls name it
+
+-- the line of the last of these entries
+last_line : (ls : List (List ℕ)) (earlier : List Member) (last : Member)
+    → map (line_entry LINE_LIMIT) ls ≡ map Some (earlier ++ last ∷ [])
+    → (before : List (List ℕ)) × (line : List ℕ) × (ls ≡ before ++ line ∷ []) × (line_entry LINE_LIMIT line ≡ Some last)
+last_line [] [] last e = grind arith
+last_line [] (m ∷ ms) last e = grind arith
+last_line (l ∷ []) [] last e = ([], l, refl, grind arith)
+last_line (l ∷ k ∷ ls) [] last e = grind arith
+last_line (l ∷ ls) (m ∷ ms) last e =
+    let rest = last_line ls ms last (grind arith) in
+    (l ∷ rest.0, rest.1, grind arith, rest.3)
+
+of_one : (text : List ℕ) (i : ℕ) (P : List ℕ → Type 0) → i ≡ 0 → P text → IfTold (Some text ∷ []) i P
+of_one text zero P e p = (omega arith, λ t is. let same : t ≡ text = cc in rw same p)
+of_one text (suc i) P e p = grind arith
+
+pub check_fault_of_line : CheckFaultIsOfLine
+check_fault_of_line text size (answer.BadLine i offset) first checked =
+    let c = checked_text text size (Err (answer.BadLine i offset)) checked in
+    of_one text i (λ t. IsBadLine LINE_LIMIT t offset) first
+    (record { before = c.1.0; line = c.0; begins = c.1.1; bad = c.1.4 })
+check_fault_of_line text size (answer.OutOfOrder i offset) first checked =
+    let c = checked_text text size (Err (answer.OutOfOrder i offset)) checked in
+    of_one text i (λ t. IsOutOfOrder LINE_LIMIT t offset) first (falls c)
+  where
+    falls : IsCheckedText text (Err (answer.OutOfOrder i offset)) → IsOutOfOrder LINE_LIMIT text offset
+    falls (line, member, entry, (before, begins, members, run, (None, is, after))) = absurd after
+    falls (line, member, entry, (before, begins, members, run, (Some last, (earlier, is), after))) =
+        let there = last_line before earlier last (rw is at run.entries) in
+        record {
+          before = there.0;
+          previous = there.1;
+          line = line;
+          begins = subst (λ b. LineBeginsAt text offset b line) there.2 begins;
+          earlier = last;
+          later = member;
+          earlier_is = there.3;
+          later_is = entry;
+          falls = after;
+        }
+check_fault_of_line text size other first checked = tt

@@ -6,7 +6,10 @@ use Rattle.devices.specs.Device.{Grows}
 use Rattle.devices.specs.LineCuts.{HasNoLineFeed}
 use Rattle.page_core.proofs.PageLaws.{chain_one}
 use Rattle.query_core.specs.CountLaws.{AnswerCountsAreOne, ServingCountsAreOne, SourceCountIsOne}
-use Rattle.query_core.specs.Fronts.{AnswerHasFront, MergeHasFront, PagesHaveFront, RepliesHaveFront}
+use Rattle.query_core.specs.AnyReplies.{fault_text}
+use Rattle.query_core.specs.declared.fault.AnswerFault.TheVariants as fault
+use Rattle.query_core.specs.Fronts.{AnswerHasFront, FaultFollowsFront, MergeHasFront, PagesHaveFront, RepliesHaveFront}
+use Rattle.query_core.proofs.Words.{AnswerFault, codes, drop, inl, inr}
 use Rattle.query_core.proofs.ReplyLemmas.{replies_one}
 use Rattle.query_core.specs.{OneText.ConversationIsOne, OneText.TakenIsOne, Replies.marked_reply}
 
@@ -44,6 +47,25 @@ conversation_one told input old new new' number number' (small, counted, texts, 
     let one = replies_one told _ texts each these indexes known are in
     let other = replies_one told _ texts' each' these indexes known are in
     grind arith
+
+-- ---- a reply with a fault
+
+a_fault_line : (f : AnswerFault) (line : List ℕ) → fault_text f ≡ Some line
+    → (rest : List ℕ) × (line ≡ codes "\nfault " ++ rest)
+a_fault_line (fault.BadLine i offset) line is = (drop 7 line, grind arith)
+a_fault_line (fault.OutOfOrder i offset) line is = (drop 7 line, grind arith)
+a_fault_line f line is = grind arith
+
+pub fault_front : FaultFollowsFront
+fault_front told q reply page = (
+  page.lines,
+  elim page.holds [
+    | inl whole ↦ inl whole
+    | inr ended ↦
+        let line = a_fault_line ended.fault ended.line ended.line_is in
+        inr (ended.front, ended.rest, line.0, ended.whole, rw (← line.1) ended.ends)
+  ],
+)
 
 -- ---- what was taken of an input that failed
 

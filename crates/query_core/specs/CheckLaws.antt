@@ -1,10 +1,11 @@
 -- What the checking of an index says of a known text.
-use Rattle.std.specs.Prelude.{◌≡◌, ℕ, ⊤, List, length, Option, None, Some, Result, Ok, Err}
+use Rattle.std.specs.Prelude.{◌≡◌, ℕ, ⊤, List, [], ◌∷◌, length, Option, None, Some, Result, Ok, Err}
 use Rattle.cdxj_core.specs.declared.limit.TheConstants.{LINE_LIMIT}
 use Rattle.cdxj_core.specs.Indexes.{IsIndex, IsRun}
 use Rattle.cdxj_core.specs.Members.{Member, line_entry}
 use Rattle.source_core.specs.LinesAtFault.{LineBeginsAt}
-use Rattle.query_core.specs.Checking.{FallsAfter, IsChecked, IsLastOf}
+use Rattle.query_core.specs.Checking.{FallsAfter, IsChecked, IsCheckFault, IsLastOf}
+use Rattle.query_core.specs.IndexFaults.{IsAnswerFaultOf}
 use Rattle.query_core.specs.declared.fault.AnswerFault.{AnswerFault}
 use Rattle.query_core.specs.declared.fault.AnswerFault.TheVariants as fault
 
@@ -27,3 +28,8 @@ IsCheckedText text (Err other) = ⊤
 abbrev pub CheckedIsText : Type 0
 CheckedIsText = (text : List ℕ) (size : ℕ) (result : Result ℕ AnswerFault) → IsChecked (Some text) size result
     → IsCheckedText text result
+
+-- and a line that it names is at fault as other calls say it
+abbrev pub CheckFaultIsOfLine : Type 0
+CheckFaultIsOfLine = (text : List ℕ) (size : ℕ) (f : AnswerFault) → IsCheckFault f → IsChecked (Some text) size (Err f)
+    → IsAnswerFaultOf (Some text ∷ []) f

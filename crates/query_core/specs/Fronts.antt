@@ -1,5 +1,5 @@
 -- Of the same lines, and over a known output, a call that fails has written a front of what one that succeeds writes.
-use Rattle.std.specs.Prelude.{◌≡◌, ℕ, List, true, Option, Some, Ok, Err}
+use Rattle.std.specs.Prelude.{◌≡◌, ◌⊎◌, ℕ, List, ◌++◌, codes, true, Option, Some, Ok, Err}
 use Rattle.cdxj_core.specs.Members.{Member}
 use Rattle.devices.specs.Device.{Grows}
 use Rattle.query_text.specs.declared.query.TheConstants.{QUERY_LIMIT}
@@ -9,7 +9,8 @@ use Rattle.merge_core.specs.SourceLines.{WritesLines}
 use Rattle.query_core.specs.declared.fault.AnswerFault.{AnswerFault}
 use Rattle.query_core.specs.declared.report.Report.{Report}
 use Rattle.query_core.specs.Answering.{WritesAnswer}
-use Rattle.query_core.specs.AnyReplies.{IsTextReply}
+use Rattle.query_core.specs.AnyReplies.{IsPageReply, IsTextReply}
+use Rattle.query_core.specs.QueryPages.{answer_text, query_page}
 use Rattle.query_core.specs.Conversations.{Converses}
 use Rattle.query_core.specs.Paging.{WritesPages, are_sizes}
 
@@ -35,3 +36,10 @@ RepliesHaveFront = (told : List (Option (List ℕ))) (input old : List ℕ) (par
     (fault : AnswerFault) (number : ℕ) → Converses QUERY_LIMIT (IsTextReply told) (Err fault) (Some input) (Some old) part
     → Converses QUERY_LIMIT (IsTextReply told) (Ok number) (Some input) (Some old) whole
     → OverIndexes told (λ _ _. Grows part whole)
+
+-- and a reply over any bytes is a page of lines of theirs, or a front of one and then a fault
+abbrev pub FaultFollowsFront : Type 0
+FaultFollowsFront = (told : List (Option (List ℕ))) (q : QueryValue) (reply : List ℕ) → IsPageReply told q reply
+    → (lines : List Member) × ((reply ≡ answer_text q (query_page q lines))
+    ⊎ ((front : List ℕ) × (rest : List ℕ) × (line : List ℕ) × (answer_text q (query_page q lines) ≡ front ++ rest)
+    × (reply ≡ front ++ (codes "\nfault " ++ line))))

@@ -1,11 +1,11 @@
 //! Laws of the definitions that the contracts cite. These functions do nothing: each law is a
 //! contract.
 ghost use Rattle.std.specs.Prelude.{◌≡◌};
-ghost use Rattle.query_core.specs.CheckLaws.{CheckedIsText};
+ghost use Rattle.query_core.specs.CheckLaws.{CheckFaultIsOfLine, CheckedIsText};
 ghost use Rattle.query_core.specs.CountLaws.{AnswerCountsAreOne, ServingCountsAreOne};
 ghost use Rattle.query_core.specs.CountLaws.{SourceCountIsOne};
-ghost use Rattle.query_core.specs.Fronts.{AnswerHasFront, MergeHasFront, PagesHaveFront};
-ghost use Rattle.query_core.specs.Fronts.{RepliesHaveFront};
+ghost use Rattle.query_core.specs.Fronts.{AnswerHasFront, FaultFollowsFront, MergeHasFront};
+ghost use Rattle.query_core.specs.Fronts.{PagesHaveFront, RepliesHaveFront};
 ghost use Rattle.query_core.specs.declared.merging.TheConstants.{SOURCES_LIMIT};
 ghost use Rattle.query_core.specs.Limits.{LINE_LIMIT, QUERY_LIMIT};
 ghost use Rattle.query_core.specs.MergeLaws.{KeptIsIndex, MergedIsIndex, MergesCommute};
@@ -182,12 +182,14 @@ pub fn captures_stand_in_sources()
 {}
 
 /// Of the same lines, and over an output whose bytes are known, a call that fails has written a
-/// front of what one that succeeds writes. Over indexes that holds of a conversation too.
+/// front of what one that succeeds writes. Over indexes that holds of a conversation too. Over any
+/// bytes a reply is a page, or a front of one and a line of a fault.
 pub fn faults_leave_a_front()
     ensures answer { AnswerHasFront }
     ensures pages { PagesHaveFront }
     ensures merge { MergeHasFront }
     ensures serve { RepliesHaveFront }
+    ensures reply { FaultFollowsFront }
 {}
 
 /// What a call answers decides every count of failures after it, but for the input of a
@@ -227,10 +229,12 @@ pub fn refusals_are_these()
 {}
 
 /// What `check` says of a text that is known: it is an index of this number of lines, or the lines
-/// before the first one at fault are an index by themselves.
-#[tactic(auto, using(crate::proofs::CheckLemmas::checked_is_text))]
+/// before the first one at fault are an index by themselves, and that line is at fault as the other
+/// calls say it. So no index is refused.
+#[tactic(auto, using(crate::proofs::CheckLemmas::checked_is_text, crate::proofs::CheckLemmas::check_fault_of_line))]
 pub fn checked_texts_are_indexes()
-    ensures { CheckedIsText }
+    ensures text { CheckedIsText }
+    ensures fault { CheckFaultIsOfLine }
 {}
 
 /// The name of a field, as pages write it, names the field in a query.

@@ -1,4 +1,4 @@
-use Rattle.query_core.proofs.FrontLemmas.{answer_front, merge_front, pages_front, replies_front}
+use Rattle.query_core.proofs.FrontLemmas.{answer_front, fault_front, merge_front, pages_front, replies_front}
 use Rattle.query_core.proofs.laws.faults_leave_a_front.Goals as goal
 
 pub returns-clause-answer : goal.returns-clause-answer
@@ -12,3 +12,6 @@ returns-clause-merge c = merge_front
 
 pub returns-clause-serve : goal.returns-clause-serve
 returns-clause-serve c = replies_front
+
+pub returns-clause-reply : goal.returns-clause-reply
+returns-clause-reply c = fault_front
