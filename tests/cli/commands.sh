@@ -399,8 +399,8 @@ advises "why: no field"             "fl is a list, with ',' between, of urlkey, 
 condition="A condition is FIELD:TEXT, such as filter=statuscode:200, with a field that fl may have."
 advises "why: a condition on no field" "'status' isn't a field. $condition"                              1 query "url=a&isnot=urlkey:x&filter=!status:200" sorted.cdxj
 advises "why: a condition without a colon" "$condition"                                                 1 query "url=a&has=urlkey" sorted.cdxj
-advises "why: a pattern without a file" "No file has a name of this pattern." 3 list 'missing-*.warc'
-advises "why: a URL as a file" "It is a URL: download the file first." 3 list http://example.com/a.warc
+advises "why: a pattern without a file" "Its name is a pattern that no file matches: No such file or directory (os error 2)" 3 list 'missing-*.warc'
+advises "why: a URL as a file" "Its name is a URL, and only files are read: No such file or directory (os error 2)" 3 list http://example.com/a.warc
 advises "why: a query in two arguments" "A query is one argument, with & between its parameters."       3 query url=a fl=urlkey
 advises "why: no url"               "A query has a url or a key, such as url=example.com."              1 query "" sorted.cdxj
 

@@ -28,19 +28,26 @@ const ARC: &str = "It is an ARC file: convert it to a WARC file first.";
 const NO_PIPE: &str =
     "An index is a file, because it is searched: write what a pipe has to a file first.";
 
-/// Returns why a file of this name can't be opened, if it isn't the name of one. `is_missing` says
-/// whether there is no such file.
-pub fn unopened_advice(name: &str, is_missing: bool) -> Option<&'static str> {
+/// Returns why a file of this name can't be opened, if the system's reason doesn't say it.
+pub fn unopened_advice(name: &str) -> Option<&'static str> {
     if name == "-" {
         Some(NO_PIPE)
     } else if is_parameter_with_value(name) {
         Some("A query is one argument, with & between its parameters.")
-    } else if is_missing && name.contains("://") {
-        Some("It is a URL: download the file first.")
-    } else if is_missing && name.contains('*') {
-        Some("No file has a name of this pattern.")
     } else {
         None
+    }
+}
+
+/// Returns what the name of a file is that isn't there, if it seems to be something else. The
+/// system's reason stands behind it.
+pub fn missing_advice(name: &str) -> &'static str {
+    if name.contains("://") {
+        "Its name is a URL, and only files are read: "
+    } else if name.contains('*') {
+        "Its name is a pattern that no file matches: "
+    } else {
+        ""
     }
 }
 

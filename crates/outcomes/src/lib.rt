@@ -12,7 +12,7 @@ mod messages;
 mod outcome;
 mod refused_part;
 
-pub use crate::advice::{end_advice, unopened_advice, unread_advice};
+pub use crate::advice::{end_advice, missing_advice, unopened_advice, unread_advice};
 pub use crate::console::Console;
 pub use crate::exit_status::{ends_command, status, status_zero_is_done, worse};
 pub use crate::messages::{

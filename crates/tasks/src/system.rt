@@ -12,7 +12,7 @@ use crate::standard_input::StandardInput;
 use command_line::Program;
 use either::Either;
 use index_core::{AnyArchive, IndexFault, PlainArchive};
-use outcomes::{Console, Outcome, unopened_advice, unread_advice};
+use outcomes::{Console, Outcome, missing_advice, unopened_advice, unread_advice};
 use query_core::{AnswerFault, FileSource};
 use std::env::{self, Env, FillError};
 use std::fs::{File, Files};
@@ -199,11 +199,14 @@ fn open_file<R: Runtime + AllocGlobal>(
     }
 }
 
-/// Reports on standard error why a file can't be opened, or what its name is.
+/// Reports on standard error why a file can't be opened.
 fn say_why<R: Runtime>(rt: &R, name: &str, error: &io::Error) {
-    let is_missing = error.kind() == ErrorKind::NotFound;
-    let _ = match unopened_advice(name, is_missing) {
+    let _ = match unopened_advice(name) {
         Some(advice) => eprintln!(rt; "  {advice}"),
+        None if error.kind() == ErrorKind::NotFound => {
+            let advice = missing_advice(name);
+            eprintln!(rt; "  {advice}{error}")
+        }
         None => eprintln!(rt; "  {error}"),
     };
 }
