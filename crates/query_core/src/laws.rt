@@ -231,7 +231,6 @@ pub fn refusals_are_these()
 /// What `check` says of a text that is known: it is an index of this number of lines, or the lines
 /// before the first one at fault are an index by themselves, and that line is at fault as the other
 /// calls say it. So no index is refused.
-#[tactic(auto, using(crate::proofs::CheckLemmas::checked_is_text, crate::proofs::CheckLemmas::check_fault_of_line))]
 pub fn checked_texts_are_indexes()
     ensures text { CheckedIsText }
     ensures fault { CheckFaultIsOfLine }
