@@ -208,7 +208,8 @@ class Folders(Checked):
     def test_no_start_over_another_folder(self) -> None:
         (self.folder / "index").mkdir()
         said = self.refused_start("--program", str(self.program()), "--indexes", str(self.folder / "index"), status=3)
-        self.assertEqual(said, f"warcdx-gateway: {self.folder}/index: CannotOpen (Is a directory)\n")
+        why = "cannot open (Is a directory); a folder is an index if warcdx-update has made it"
+        self.assertEqual(said, f"warcdx-gateway: {self.folder}/index: {why}\n")
 
 
 if __name__ == "__main__":

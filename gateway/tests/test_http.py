@@ -288,7 +288,7 @@ class Starts(Case):
         os.mkfifo(pipe)
         for path, reason in (
             (str(self.folder / "nosuch"), "No such file or directory"),
-            (str(self.folder), "CannotOpen (Is a directory)"),
+            (str(self.folder), "cannot open (Is a directory); a folder is an index if warcdx-update has made it"),
             (str(pipe), "not a regular file"),
             ("/dev/zero", "not a regular file"),
         ):

@@ -141,7 +141,9 @@ class Messages(Runs):
         for words, wanted in (
             (("verify", "nosuch"), "nosuch: cannot open (No such file or directory)"),
             (("verify", "."), ".: cannot open (Is a directory); name the archives in it"),
-            (("cdx", "to", "."), ".: cannot open (Is a directory)"),
+            (("verify", "no*.warc"), "no*.warc: cannot open (No such file or directory); no file has a name of this pattern"),
+            (("verify", "http://a/b.warc"), "; it is a URL, and only files are read: fetch it first"),
+            (("cdx", "to", "."), ".: cannot open (Is a directory); a folder is an index if warcdx-update has made it"),
             (
                 ("fetch", "--index", index, "http://example.com/0000000"),
                 "; --archives FOLDER names the folder below which it has this path",

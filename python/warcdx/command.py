@@ -1,6 +1,7 @@
 """What the commands of this package share: their arguments, output and messages, and how a signal ends them."""
 import argparse
 import contextlib
+import errno
 import io
 import itertools
 import os
@@ -200,6 +201,8 @@ def _end_of_thread(arguments: threading.ExceptHookArgs) -> None:
 
 def reason_of(error: Exception) -> str:
     """Returns what an error says: of a failed system call the file, if it is known, and the system's reason."""
+    if isinstance(error, Fault):
+        return line_of(error)
     if not isinstance(error, OSError) or error.strerror is None:
         return str(error)
     if error.filename is None:
@@ -213,8 +216,17 @@ def line_of(fault: Fault, advice: str = "") -> str:
     place = "" if fault.offset is None else f" {fault.offset}"
     why = advice or fault.advice
     if isinstance(fault, CannotOpen):
-        return f"{file}cannot open" + (f" ({fault.reason})" if fault.reason else "")
+        why = why or _advice_on_name(fault)
+        return f"{file}cannot open" + (f" ({fault.reason})" if fault.reason else "") + (f"; {why}" if why else "")
     return f"{file}{fault.name}{place}" + (f": {why}" if why else "")
+
+
+def _advice_on_name(fault: CannotOpen) -> str:
+    """Returns what the name is of a file that isn't there, if it looks like a URL or a pattern."""
+    name = fault.file if fault.file is not None and fault.system_error == errno.ENOENT else ""
+    if "://" in name:
+        return "it is a URL, and only files are read: fetch it first"
+    return "no file has a name of this pattern" if any(each in name for each in "*?[") else ""
 
 
 def failure(name: str, error: Error) -> int:

@@ -34,7 +34,6 @@ Exit status:
   3  a file can't be opened, or reading, writing, memory or the program failed
 """
 import argparse
-import errno
 import functools
 import itertools
 import json
@@ -217,13 +216,8 @@ def reason_of(error: Error) -> str:
 def line_about(fault: Fault, given: argparse.Namespace) -> str:
     """Returns what is said of a fault that ends the command."""
     advice = "" if fault.file is None else advice_on(fault, fault.file, given.program)
-    if not isinstance(fault, CannotOpen):
-        hint = ""
-    elif fault.file not in operands(given.index):
-        hint = "; --archives FOLDER names the folder below which it has this path"
-    else:
-        hint = "; a folder is an index if warcdx-update has made it" if fault.system_error == errno.EISDIR else ""
-    return line_of(fault, advice) + hint
+    is_archive = isinstance(fault, CannotOpen) and fault.file not in operands(given.index)
+    return line_of(fault, advice) + ("; --archives FOLDER names the folder below which it has this path" if is_archive else "")
 
 
 def refusal_of(refused: Refused, given: argparse.Namespace) -> str:

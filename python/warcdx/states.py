@@ -52,7 +52,9 @@ def runs_of(folder: Path) -> list[str]:
             break
         except OSError as error:  # a state that is removed meanwhile isn't there: `current` leads to another one
             reason = errno.EISDIR if not os.path.lexists(current) else error.errno or reason
-    raise cannot_open(os.fspath(folder), reason)
+    fault = cannot_open(os.fspath(folder), reason)
+    fault.advice = "a folder is an index if warcdx-update has made it" if reason == errno.EISDIR else ""
+    raise fault
 
 
 def files_of(index: Path) -> list[str]:
