@@ -160,6 +160,16 @@ class Messages(Runs):
         said = "warcdx-verify: nosuch: no such program on the PATH; --program PROGRAM names another one\n"
         self.assertEqual((3, "", said), self.run_command(*command))
 
+    def test_an_option_that_is_misspelled(self) -> None:
+        for words, wanted in (
+            (("verify", "--job", "4", "a"), "unrecognized arguments: --job; a similar option is --jobs; 'warcdx-verify --help'"),
+            (("fetch", "--arcives=a", "b"), "unrecognized arguments: --arcives=a; a similar option is --archives; '"),
+            (("update", "--zzz", "a", "b"), "unrecognized arguments: --zzz; '"),
+        ):
+            status, found, said = self.run_on_program(*words)
+            self.assertEqual((2, "", 1), (status, found, said.count("\n")), words)
+            self.assertIn(wanted, said)
+
     def test_an_index_without_its_option(self) -> None:
         status, found, said = self.run_on_program("fetch", "http://example.com/", "a.cdxj")
         self.assertEqual((2, ""), (status, found))

@@ -1,6 +1,7 @@
 """What the commands of this package share: their arguments, output and messages, and how a signal ends them."""
 import argparse
 import contextlib
+import difflib
 import errno
 import io
 import itertools
@@ -89,7 +90,10 @@ class Parser(argparse.ArgumentParser):
         return [*files, *options]
 
     def error(self, message: str) -> NoReturn:
-        report(self.prog, f"error: {printable(message)}; '{self.prog} --help' has the arguments")
+        found = re.match("unrecognized arguments: (--[^ =]+)", message)
+        near = difflib.get_close_matches(found[1], self._option_string_actions, 1) if found else ()
+        hint = f"; a similar option is {near[0]}" if near else ""
+        report(self.prog, f"error: {printable(message)}{hint}; '{self.prog} --help' has the arguments")
         sys.exit(USAGE)
 
 
