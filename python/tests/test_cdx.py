@@ -134,7 +134,7 @@ class Output(Cdx):
         for words in (("to", "-o", "new", "index"), ("-o", "new", "to", "index"), ("to", "index", "--output=new")):
             self.assertEqual((b"", "", 0), self.run_command(*words))
             self.assertEqual(HEADER + ROW, (self.folder / "new").read_bytes())
-            said = "warcdx-cdx: new: it is there, and isn't replaced\n"
+            said = "warcdx-cdx: new: it is there, and isn't replaced; give another name\n"
             self.assertEqual((b"", said, 3), self.run_command(*words))
             (self.folder / "new").unlink()
         self.assertEqual((HEADER + ROW, "", 0), self.run_command("to", "-o", "-", "index"))

@@ -142,7 +142,7 @@ class Fetching(Case):
         self.assertEqual((0, b"", ""), self.fetch("-o", "page", URL))
         self.assertEqual(b"new!\n", (self.folder / "page").read_bytes())
         status, output, error = self.fetch("-o", "page", "--at", "2016", URL)
-        self.assertEqual((3, b"", "warcdx-fetch: page: it is there, and isn't replaced\n"), (status, output, error))
+        self.assertEqual((3, b"", "warcdx-fetch: page: it is there, and isn't replaced; give another name\n"), (status, output, error))
         self.assertEqual(b"new!\n", (self.folder / "page").read_bytes())
         self.assertEqual(1, self.fetch("-o", "lost", "http://example.com/lost")[0])
         self.assertEqual({"a.warc", "b.warc.gz", "a.cdxj", "b.cdxj", "page"}, set(os.listdir(self.folder)))

@@ -127,7 +127,7 @@ class Messages(Runs):
             (("verify", "a.warc.gz"), "a.warc.gz: Each record has to be a member of gzip of its own: "),
             (("verify", index), f"{index}: It seems to be an index: warcdx query reads indexes."),
             (("cdx", "to", "a.warc"), "a.warc: BadLine 0: It is a WARC file: "),
-            (("cdx", "from", "a.cdx.gz"), "a.cdx.gz: It is compressed by gzip: "),
+            (("cdx", "from", "a.cdx.gz"), "a.cdx.gz: It is compressed by gzip: zcat FILE | warcdx-cdx from"),
             (("cdx", "from", index), f"{index}: It is an index: warcdx-cdx to reads indexes."),
             (("fetch", "--index", "a.warc", "http://example.com/"), "a.warc: BadLine 0: It is a WARC file: "),
             (("fetch", "--index", "a.cdx", "--all", "-o", "new", "key=a000900"), ": It is a CDX file: "),
@@ -170,10 +170,15 @@ class Messages(Runs):
             self.assertEqual((2, "", 1), (status, found, said.count("\n")), words)
             self.assertIn(wanted, said)
 
-    def test_an_index_without_its_option(self) -> None:
-        status, found, said = self.run_on_program("fetch", "http://example.com/", "a.cdxj")
-        self.assertEqual((2, ""), (status, found))
-        self.assertIn("give one URL; an index follows --index", said)
+    def test_what_precedes_is_missing(self) -> None:
+        for words, wanted in (
+            (("fetch", "http://example.com/", "a.cdxj"), "give one URL; an index follows --index"),
+            (("fetch", "--index", "a.cdxj", ""), "URL: the name is empty"),
+            (("cdx", "a.cdx"), "write 'to' before indexes, and 'from' before CDX files"),
+        ):
+            status, found, said = self.run_on_program(*words)
+            self.assertEqual((2, ""), (status, found), words)
+            self.assertIn(wanted, said)
 
     def test_a_parameter_that_the_command_gives(self) -> None:
         index = self.put(lines(1), "a.cdxj")

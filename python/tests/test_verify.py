@@ -349,7 +349,7 @@ class Command(Case):
         for words in ((), ("--jobs", "2"), ("--jobs=2", "--resume=notes")):
             self.assertEqual(("", "", 1), self.run_command("-o", "report", *words, *names))
             self.assertEqual(wanted, (self.folder / "report").read_text())
-            said = "warcdx-verify: report: it is there, and isn't replaced\n"
+            said = "warcdx-verify: report: it is there, and isn't replaced; give another name\n"
             self.assertEqual(("", said, 3), self.run_command("-o", "report", "--resume", "others", *names))
             (self.folder / "report").unlink()
         self.assertEqual({"a", "b", "notes"}, {path.name for path in self.folder.iterdir()})

@@ -29,6 +29,8 @@ def kind_of(path: Path, program: str) -> str:
     status, said = _said(program, "check", operand(path))
     if not status:
         return "It is an index: warcdx-cdx to reads indexes."
+    if said.startswith("It is compressed by gzip"):
+        return "It is compressed by gzip: zcat FILE | warcdx-cdx from reads a CDX file."
     return said if said.startswith("It ") else ""
 
 

@@ -55,10 +55,16 @@ def read_arguments(arguments: Optional[Sequence[str]]) -> argparse.Namespace:
     parser = Parser(NAME, __doc__)
     parser.add_output("FILE", "write this new file (default: standard output)")
     parser.add_argument("--program", default="warcdx", metavar="PROGRAM", help="the program (%(default)s)")
-    parser.add_argument("command", choices=COMMANDS, metavar="to|from", help="what to write: CDX files, or lines of an index")
+    parser.add_argument("command", type=command_of, metavar="to|from", help="what to write: CDX files, or lines of an index")
     help_files = "an index for `to`, a CDX file for `from`; - is standard input"
     parser.add_argument("files", nargs="*", default=(), type=name_of_file, metavar="FILE", help=help_files)
     return parser.parse(arguments)
+
+
+def command_of(text: str) -> str:
+    if text not in COMMANDS:
+        raise argparse.ArgumentTypeError("write 'to' before indexes, and 'from' before CDX files")
+    return text
 
 
 def to_cdx(given: argparse.Namespace, output: IO[bytes]) -> int:

@@ -47,7 +47,7 @@ from typing import IO, BinaryIO, Optional
 
 from .advice import advice_on, advice_on_query
 from .collection import Collection
-from .command import FAILED, FAILURES, FAULTY, Parser, failure, line_of, name_on_disk, printable, report, run, status_of
+from .command import FAILED, FAILURES, FAULTY, Parser, failure, line_of, name_of_file, name_on_disk, printable, report, run, status_of
 from .errors import Error, Fault, NoArchive, Refused
 from .faults import CannotOpen, Read
 from .fetching import moment_of, nearest, opened_page
@@ -78,7 +78,7 @@ def read_arguments(arguments: Optional[Sequence[str]]) -> argparse.Namespace:
     lines.add_argument("--json", action="store_true", help="with --all, print a line of JSON about each file")
     parser.add_output("FILE", "the new file, or with --all the new folder or archive")
     add("--program", default="warcdx", metavar="PROGRAM", help="the program (%(default)s); warcdx-gz is beside it, or of the PATH")
-    add("query", metavar="URL", help="what to write; with --all a query too")
+    add("query", type=name_of_file, metavar="URL", help="what to write; with --all a query too")
     add("more", nargs="*", default=(), help=argparse.SUPPRESS)
     given = parser.parse(arguments)
     if given.more:

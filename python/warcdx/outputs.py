@@ -47,7 +47,7 @@ def new_file(path: str) -> Iterator[BinaryIO]:
 
 def check_that_it_is_new(path: str) -> None:
     if os.path.lexists(path):
-        raise FileExistsError(errno.EEXIST, "it is there, and isn't replaced", path)
+        raise FileExistsError(errno.EEXIST, "it is there, and isn't replaced; give another name", path)
 
 
 def _give_name(begun: str, path: str) -> None:
