@@ -334,13 +334,16 @@ class Starts(Case):
             (f"workers = 2\nwide = 2\n{good}", "'wide' has to be 1 or more, and less than"),
             (f"memory = 1000\n{good}", "'memory' has to be 268435456 bytes or more"),
             (f"timeout = 30\n{good}", "'timeout' has to be more than limits.query"),
-            (f'address = "0.0.0.0"\n{good}', "'hosts' has to name the hosts of requests"),
+            (f'address = "0.0.0.0"\n{good}', "'hosts' has to name the hosts of requests, as --host NAME does"),
             (f'hosts = "a"\n{good}', "'hosts' has to be a list of texts"),
             (f"{good}[limits]\nstreams = 1\n", "unknown setting 'limits.streams'"),
             (f"{good}[limits]\nlargest = 0\n", "'limits.largest' has to be a number from 1"),
             (f"{good}[limits]\nlargest = 5\n", "'limits.held' has to be at most limits.largest"),
             (f"{good}[limits]\nx = 0\n", "unknown setting 'limits.x'"),
-            ('[collections.cdx]\nindexes = ["a"]', "'collections.cdx' can't be the name"),
+            (
+                '[collections.cdx]\nindexes = ["a"]',
+                "'collections.cdx' can't be the name of a collection: it has letters, digits, '.', '_' and '-', and isn't browse, cdx, ",
+            ),
             ('[collections."a/b"]\nindexes = ["a"]', "can't be the name"),
             ("[collections.a]\nindexes = []", "'collections.a.indexes' has to be 1 to 1024 paths"),
             ('[collections.a]\nindexes = "a"', "'collections.a.indexes' has to be a list of texts"),
@@ -354,6 +357,14 @@ class Starts(Case):
         ):
             with self.subTest(text):
                 self.assertIn(wanted, self.fails(self.settings(text), status=1))
+
+    def test_numbers_of_arguments_are_checked(self) -> None:
+        for words, wanted in (
+            (("--port", "http"), "--port: a number from 0 to 65535"),
+            (("--port", "65536"), "--port: a number from 0 to 65535"),
+            (("--workers", "1"), "--workers: a number from 2 to 256"),
+        ):
+            self.assertIn(wanted, self.fails(*words, "--indexes", "index", status=2))
 
     def test_paths_are_relative_to_the_file(self) -> None:
         self.put(SAMPLE)

@@ -30,7 +30,7 @@ from warcdx import Error, Fault, command
 from warcdx.streams import OutputError
 
 from .checking import NotInOrder
-from .settings import BadSettings, CollectionSettings, Settings, checked, read_settings
+from .settings import MOST_WORKERS, BadSettings, CollectionSettings, Settings, checked, read_settings
 
 NAME = "warcdx-gateway"
 
@@ -42,9 +42,9 @@ def read_arguments(arguments: Optional[Sequence[str]]) -> Settings:
     parser.add_argument("--indexes", metavar="INDEX", nargs="+", help="the indexes of one collection")
     parser.add_argument("--archives", metavar="FOLDER", nargs="+", default=[], help="the folders of its archives")
     parser.add_argument("--address", help="the address to listen at, instead of that of the settings")
-    parser.add_argument("--port", type=int, help="the port, 0 for any that is free")
+    parser.add_argument("--port", type=command.number_from(0, 65_535), help="the port, 0 for any that is free")
     parser.add_argument("--host", help="a name that requests may have in their field Host")
-    parser.add_argument("--workers", type=int, help="how many processes answer requests")
+    parser.add_argument("--workers", type=command.number_from(2, MOST_WORKERS), help="how many processes answer requests")
     parser.add_argument("--program", help="the program warcdx")
     given = parser.parse(arguments)
     if (given.settings is None) == (given.indexes is None):

@@ -176,7 +176,7 @@ def checked(settings: Settings) -> Settings:
     least = settings.limits.query
     why = f"has to be more than limits.query, which is {least}"
     require(settings.timeout > least, "timeout", why)
-    why = "has to name the hosts of requests, as the address isn't one of this machine only"
+    why = "has to name the hosts of requests, as --host NAME does, because the address isn't one of this machine only"
     require(settings.is_local or bool(settings.hosts), "hosts", why)
     return settings
 
@@ -223,8 +223,8 @@ def limits_of(table: object) -> Limits:
 
 def collection_of(name: str, table: object, folder: pathlib.Path) -> CollectionSettings:
     where = f"collections.{name}"
-    is_name = bool(NAME.fullmatch(name)) and name not in RESERVED
-    require(is_name, where, "can't be the name of a collection")
+    why = f"can't be the name of a collection: it has letters, digits, '.', '_' and '-', and isn't {', '.join(RESERVED)}"
+    require(bool(NAME.fullmatch(name)) and name not in RESERVED, where, why)
     given: dict[str, Any] = {"title": name, **values_of(CollectionSettings, table, where)}
     for kind in ("indexes", "archives", "links"):
         given[kind] = tuple((folder / each).absolute() for each in given.get(kind, ()))

@@ -26,7 +26,7 @@ FAULTY = 1  # the exit status if what is read is at fault
 USAGE = 2  # the exit status after a usage error
 FAILED = 3  # the exit status if a file, memory, the output or a program failed
 FAILURES = (CannotFlush, CannotOpen, Input, Memory, Read, Write)  # the faults that are no faults of what is read
-_NUMBER = re.compile("[0-9]{1,4}")
+_NUMBER = re.compile("[0-9]{1,5}")
 NO_THREAD = "can't start new thread"  # the message of a RuntimeError if there is no memory for a thread
 
 

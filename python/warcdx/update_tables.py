@@ -10,7 +10,6 @@ from typing import NamedTuple, Optional
 from .update_tasks import State, Written
 
 Known = tuple[int, int, int]  # a file's size in bytes, time in nanoseconds, and inode, which it keeps under another name or mode
-_SAME = "give the same option, or another INDEX"
 _CONDITIONS = {
     "TEXT": "typeof({0}) = 'text'",
     "INTEGER": "typeof({0}) = 'integer' AND {0} >= 0",
@@ -89,9 +88,10 @@ class Settings(NamedTuple):
         if made.folder != text_of(self.folder):
             raise CannotUpdate(f"it is the index of another folder, {made.folder}; give another INDEX")
         if made.recursive != self.recursive:
-            raise CannotUpdate(f"it was made {'with' if made.recursive else 'without'} --recursive: {_SAME}")
+            how = "with --recursive: give it too" if made.recursive else "without --recursive: leave it out"
+            raise CannotUpdate(f"it was made {how}, or give another INDEX")
         if made.types != self.types:
-            raise CannotUpdate(f"it was made with --types {made.types}: {_SAME}")
+            raise CannotUpdate(f"it was made with --types {made.types}: give the same, or another INDEX")
 
 
 class Noted(NamedTuple):

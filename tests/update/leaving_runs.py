@@ -139,8 +139,8 @@ def another_folder_or_option_is_refused(program: pathlib.Path, folder: pathlib.P
     cases = (
         (other, usual, "it is the index of another folder, "),
         (folder, usual, "it is the index of another folder, "),
-        (trial.archives, (*usual, "--recursive"), "it was made without --recursive"),
-        (trial.archives, (), "it was made with --types response,resource"),
+        (trial.archives, (*usual, "--recursive"), "it was made without --recursive: leave it out, or give another INDEX"),
+        (trial.archives, (), "it was made with --types response,resource: give the same, or another INDEX"),
         (trial.archives, ("--types", "response"), "it was made with --types response,resource"),
     )
     for archives, words, line in cases:
