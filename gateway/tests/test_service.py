@@ -148,6 +148,7 @@ class Nginx(Case):
     def test_tls_and_access(self) -> None:
         reader = ("--user", "reader:word")
         self.assertEqual(401, self.curl("/cdx?url=example.com/a")[0])
+        self.assertEqual((200, b"User-agent: *\nDisallow: /\n"), self.curl("/robots.txt"))
         self.assertEqual(401, self.curl("/cdx?url=example.com/a", "--user", "reader:other")[0])
         self.assertEqual((200, b"300\n"), self.curl("/cdx?url=example.com/a&fl=length", *reader))
         self.assertEqual((200, self.page("url=z.example.com/*")), self.curl("/main/cdx?url=z.example.com/*", *reader))
