@@ -94,7 +94,7 @@ shows "an archive that is gone" "is gone; the index keeps its captures" update l
 rm leaving/*
 shows "archives that are gone" "archives are gone, the first of them" update leaving left
 
-row "\`it is the index of another folder,\`, \`it was made .. --recursive\`, \`it was made with --types\`"
+row "\`it is the index of another folder,\`, \`it was made .. --recursive: .., or give another INDEX\`, \`it was made with --types\`, \`give the same, or another INDEX\`"
 shows "another folder" "it is the index of another folder," update leaving locked
 shows "another option" "it was made without --recursive" update --recursive folder locked
 shows "other types" "it was made with --types response,resource,revisit" update --types metadata folder locked
