@@ -158,17 +158,20 @@ class Files(Case):
         for text, said in (
             ("[[rules]", "rules: "),
             ("x = 1\n", "it has [[rules]] and nothing else"),
-            (good, "rule 1: it names nothing"),
-            (f'{good}url = "a.example"\n{good}hots = "a"\n', "rule 2: there is no 'hots'"),
+            (good, "rule 1: it names nothing: it needs one of embargo, collection, "),
+            (f'{good}url = "a.example"\n{good}hots = "a"\n', "rule 2: there is no 'hots': there are action, embargo, "),
             ('[[rules]]\nurl = "a.example"\n', "rule 1: 'action' has to be one of metadata, exclude"),
             (f'{good}url = "a.example"\nhost = "a.example"\n', "it has more than one of url"),
-            (f'{good}url = "http://["\n', "it isn't an address: http://["),
+            (f'{good}url = "http://["\n', "it isn't the URL of a page: http://["),
+            (f'{good}domain = "*.a.example"\n', "'domain' has no *: "),
+            (f'{good}prefix = "a.example/*"\n', "'prefix' has no *: "),
+            (f'{good}url = "a.example*"\n', "'url' has no *: "),
             (f"{good}url = 1\n", "'url' has to be a text on one line"),
             (f'{good}from = "x"\n', "'from' has to be 1 to 14 digits"),
             (f'{good}digest = "sha1:"\n', "'digest' can't be one"),
             (f"{good}embargo = 0\n", "'embargo' has to be a number of days"),
             (f"{good}embargo = true\n", "'embargo' has to be a number of days"),
-            (f'{good}collection = "nosuch"\n', "there is no such collection"),
+            (f'{good}collection = "nosuch"\n', "there is no collection 'nosuch'"),
         ):
             with self.assertRaises(BadSettings) as caught:
                 self.text(text)

@@ -24,8 +24,10 @@ MOST = 32 << 20  # bytes of the rules as the workers get them
 NONE = b"[]"  # the text of no rules
 KEY, STAMP, DIGEST = 0, 1, 5  # the places of these fields in a row of all fields
 ACTIONS = {"metadata": 1, "exclude": 2}
-TARGETS = ("url", "prefix", "host", "domain", "key")
+STARLESS = ("url", "prefix", "host", "domain")  # in which a star, as of a query, would be a character like any other
+TARGETS = (*STARLESS, "key")
 TEXTS = ("collection", "from", "to", "digest", *TARGETS)
+NAMES = ("action", "embargo", *TEXTS)
 WEB = ("http://", "https://")
 _SCHEME = re.compile(r"[A-Za-z][A-Za-z0-9+.-]*:")
 SETTLED = 2.0  # seconds for which a file has stayed as it is before it is read again
@@ -232,15 +234,17 @@ def check(number: int, table: dict[str, Any], collections: Container[str]) -> No
     action, embargo = table.get("action"), table.get("embargo", 1)
     expect(action in ACTIONS, f"'action' has to be one of {', '.join(ACTIONS)}")
     for name, value in table.items():
-        expect(name in ("action", "embargo", *TEXTS), f"there is no '{name}'")
+        expect(name in NAMES, f"there is no '{name}': there are {', '.join(NAMES)}")
         is_text = isinstance(value, str) and value and "\n" not in value and "\r" not in value
         expect(name not in TEXTS or bool(is_text), f"'{name}' has to be a text on one line")
+        has_star = name in STARLESS and (value.startswith("*") or value.endswith("*"))
+        expect(not has_star, f"'{name}' has no *: 'prefix' is for all that begins so, and 'domain' for the hosts below a host too")
     expect(type(embargo) is int and 0 < embargo < 1_000_000, "'embargo' has to be a number of days")
     for name in ("from", "to"):
         expect(bool(_STAMP.fullmatch(table.get(name, "0"))), f"'{name}' has to be 1 to 14 digits")
     expect(bool(_DIGEST.fullmatch(plain_digest(table.get("digest", "0")))), "'digest' can't be one")
-    expect(table.get("collection", "") in ("", *collections), "there is no such collection")
-    expect(len(table) > 1, "it names nothing")
+    expect(table.get("collection", "") in ("", *collections), f"there is no collection '{table.get('collection')}'")
+    expect(len(table) > 1, f"it names nothing: it needs one of {', '.join(NAMES[1:])}")
     expect(sum(name in table for name in TARGETS) < 2, f"it has more than one of {', '.join(TARGETS)}")
 
 
@@ -293,7 +297,7 @@ def keys_by_url(program: str, urls: Sequence[str]) -> dict[str, str]:
     keys = dict(zip(urls, found))
     for url in urls:
         if url not in keys or (url.startswith(WEB) and host_of(keys[url]) is None):
-            raise BadSettings(f"it isn't an address: {url}")
+            raise BadSettings(f"it isn't the URL of a page: {url}")
     return keys
 
 
