@@ -358,13 +358,14 @@ class Starts(Case):
             with self.subTest(text):
                 self.assertIn(wanted, self.fails(self.settings(text), status=1))
 
-    def test_numbers_of_arguments_are_checked(self) -> None:
+    def test_arguments_are_checked(self) -> None:
         for words, wanted in (
             (("--port", "http"), "--port: a number from 0 to 65535"),
             (("--port", "65536"), "--port: a number from 0 to 65535"),
             (("--workers", "1"), "--workers: a number from 2 to 256"),
+            ((), "give either SETTINGS or --indexes INDEX.."),
         ):
-            self.assertIn(wanted, self.fails(*words, "--indexes", "index", status=2))
+            self.assertIn(wanted, self.fails(*words, "--indexes", "index", "gateway.toml", status=2))
 
     def test_paths_are_relative_to_the_file(self) -> None:
         self.put(SAMPLE)

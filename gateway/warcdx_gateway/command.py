@@ -47,7 +47,8 @@ def read_arguments(arguments: Optional[Sequence[str]]) -> Settings:
     parser.add_argument("--workers", type=command.number_from(2, MOST_WORKERS), help="how many processes answer requests")
     parser.add_argument("--program", help="the program warcdx")
     given = parser.parse(arguments)
-    if (given.settings is None) == (given.indexes is None):
+    is_among_indexes = any(name.endswith(".toml") for name in given.indexes or ())
+    if (given.settings is None) == (given.indexes is None) or is_among_indexes:
         parser.error("give either SETTINGS or --indexes INDEX..")
     if given.settings is not None:
         settings = read_settings(pathlib.Path(given.settings))
