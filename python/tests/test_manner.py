@@ -186,6 +186,19 @@ class Messages(Runs):
         self.assertEqual((1, ""), (status, found))
         self.assertIn("RepeatedParameter in output: warcdx-fetch gives output, fl and showResumeKey itself", said)
 
+    def test_a_star_alone(self) -> None:
+        status, found, said = self.run_on_program("fetch", "--index", self.put(lines(1), "a.cdxj"), "--all", "-o", "new", "*")
+        self.assertEqual((1, ""), (status, found))
+        self.assertIn("BadUrl in url: it is an address such as example.com/a, ", said)
+        self.assertIn("; key=&matchType=prefix selects all captures\n", said)
+
+    def test_one_archive(self) -> None:
+        (self.folder / "data").mkdir()
+        (self.folder / "data/a.warc").write_bytes((SAMPLES / "response.warc").read_bytes())
+        status, found, said = self.run_on_program("update", "data", "all.cdxj.d")
+        self.assertEqual((0, ""), (status, found))
+        self.assertIn("warcdx-update: all.cdxj.d: 1 capture of 1 archive (1 indexed)\n", said)
+
     def test_several_archives_for_one_folder(self) -> None:
         status, found, said = self.run_on_program("update", "a.warc", "b.warc", "all.cdxj")
         self.assertEqual((2, ""), (status, found))

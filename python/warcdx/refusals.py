@@ -95,7 +95,7 @@ class UrlAndKey(Refused):
 class BadUrl(Refused):
     """An address is refused by the URL Standard, or isn't a web address where it has to be."""
 
-    advice = "it is an address such as example.com/a, example.com/a* or *.example.com; without one all captures are given"
+    advice = "it is an address such as example.com/a, example.com/a* or *.example.com; key=&matchType=prefix selects all captures"
 
 
 BY_NAME: dict[str, type[Refused]] = {kind.__name__: kind for kind in Refused.__subclasses__()}

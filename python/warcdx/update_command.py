@@ -217,10 +217,11 @@ def total_of(index: str, outcome: Outcome, known: int) -> str:
     counts = Counter(each.action for each in outcome.reports)
     captures = sum(each.captures for each in outcome.reports)
     archives = len(outcome.reports) - counts[Action.REMOVED] - counts[Action.LEFT_OUT]
+    total = f"{captures:,} capture{'s' * (captures != 1)} of {archives:,} archive{'s' * (archives != 1)}"
     changes = [f"{counts[action]:,} {action.value}" for action in Action if counts[action]]
     if known:
         changes.append(f"{known:,} known to be at fault")
-    return f"{printable(index)}: {captures:,} captures of {archives:,} archives" + (f" ({', '.join(changes)})" if changes else "")
+    return f"{printable(index)}: {total}" + (f" ({', '.join(changes)})" if changes else "")
 
 
 def main(arguments: Optional[Sequence[str]] = None) -> int:
