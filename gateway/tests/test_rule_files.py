@@ -164,6 +164,8 @@ class Files(Case):
             (f'{good}url = "a.example"\nhost = "a.example"\n', "it has more than one of url"),
             (f'{good}url = "http://["\n', "it isn't the URL of a page: http://["),
             (f'{good}domain = "*.a.example"\n', "'domain' has no *: "),
+            (f'{good}domain = "https://a.example"\n', "'domain' is the name of a host alone, "),
+            (f'{good}host = "a.example/b"\n', "'host' is the name of a host alone, "),
             (f'{good}prefix = "a.example/*"\n', "'prefix' has no *: "),
             (f'{good}url = "a.example*"\n', "'url' has no *: "),
             (f"{good}url = 1\n", "'url' has to be a text on one line"),

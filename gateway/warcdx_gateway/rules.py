@@ -237,6 +237,8 @@ def check(number: int, table: dict[str, Any], collections: Container[str]) -> No
         expect(name in NAMES, f"there is no '{name}': there are {', '.join(NAMES)}")
         is_text = isinstance(value, str) and value and "\n" not in value and "\r" not in value
         expect(name not in TEXTS or bool(is_text), f"'{name}' has to be a text on one line")
+        is_host = name not in ("host", "domain") or "/" not in value
+        expect(is_host, f"'{name}' is the name of a host alone, such as example.com")
         has_star = name in STARLESS and (value.startswith("*") or value.endswith("*"))
         expect(not has_star, f"'{name}' has no *: 'prefix' is for all that begins so, and 'domain' for the hosts below a host too")
     expect(type(embargo) is int and 0 < embargo < 1_000_000, "'embargo' has to be a number of days")
