@@ -285,6 +285,7 @@ class Fetching(Case):
             (("--all", "-o", "x", "--at", "2016", URL), "--at"),
             (("--all", "-o", "-", URL), "--all needs -o OUTPUT"),
             (("--all", "-o", "x.warc", URL), "the name of a new archive ends with .warc.gz"),
+            (("--record", "-o", "x.warc.gz", URL), "only --all writes a .warc.gz"),
             (("-o", "", URL), "-o/--output: the name is empty"),
             (("--at", "never", URL), "TIME is a date"),
             (("--json", URL), "--json is about the files of --all -o FOLDER"),

@@ -91,6 +91,8 @@ def read_arguments(arguments: Optional[Sequence[str]]) -> argparse.Namespace:
         parser.error("--all needs -o OUTPUT, a new folder or a new .warc.gz")
     if given.all and given.output.lower().endswith((".warc", ARCHIVE)) and not given.output.endswith(ARCHIVE):
         parser.error("the name of a new archive ends with .warc.gz")
+    if not given.all and (given.output or "").lower().endswith(ARCHIVE):
+        parser.error("only --all writes a .warc.gz; without it, a record isn't compressed")
     if given.all and given.at is not None:
         parser.error("--all writes the captures of all times; write from= and to= into QUERY in place of --at")
     if given.json and (not given.all or given.output.endswith(ARCHIVE)):
