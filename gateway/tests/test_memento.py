@@ -8,7 +8,7 @@ from collections import Counter
 from typing import Optional
 from unittest import mock
 
-from werkzeug.test import TestResponse
+from werkzeug.test import Client, TestResponse
 
 from . import browse_support as support
 from .browse_support import Archives, record, response, revisit
@@ -216,6 +216,16 @@ class Examples(support.Pages):
         for url in ("a.example.org", "http:/a.example.org/", "http%3A%2F%2Fa.example.org%2F", "https://A.example.org"):
             answer = self.asked(f"/web/timegate/{url}")
             self.assertEqual(f"{ROOT}/{LAST}id_/{ORIGINAL}", answer.headers["Location"], url)
+
+    def test_links_begin_with_the_host_as_it_was_sent(self) -> None:
+        """A name in another script has one form in ASCII, and what is no name of a host begins none."""
+        client = Client(self.serve(self.archives.collection(), hosts=("*",)))
+        for path in (f"/web/timegate/{ORIGINAL}", f"/web/timemap/link/{ORIGINAL}", f"/wayback/available?url={ORIGINAL}", "/collinfo.json"):
+            answer = client.get(path, headers={"Host": "xn--bcher-kva.example"})
+            hosts = re.findall("http://([^/]*)/(?:web|crawl)", f"{answer.headers} {answer.text}")
+            self.assertEqual({"xn--bcher-kva.example"}, set(hosts), path)
+            for host in ('a"b', "a/b", "a#"):
+                self.assertEqual(421, client.get(path, headers={"Host": host}).status_code)
 
 
 PAGE = "http://example.com/page?a=b&c=%20d"

@@ -235,7 +235,7 @@ class Gateway:
         host = host_of(request.environ.get("HTTP_HOST") or "localhost")
         if self.settings.is_local and is_loopback(host):
             return
-        if host not in self.settings.hosts and "*" not in self.settings.hosts:
+        if not host or {host, "*"}.isdisjoint(self.settings.hosts):
             raise Refusal("Host", "Host", "this server has another name; its setting hosts has those that it takes", host, status=421)
 
     def _share(self, response: Response, origin: str) -> None:
@@ -260,6 +260,11 @@ def sent_path(request: Request) -> str:
     """Returns the path as it was sent, with its escapes and its query."""
     sent = str(request.environ.get("RAW_URI") or request.environ.get("REQUEST_URI") or "")
     return ORIGIN.sub("", sent, count=1)
+
+
+def root_of(request: Request) -> str:
+    """Returns what links begin with. The host is as it was sent, and not decoded as by `root_url`."""
+    return f"{request.scheme}://{request.host}"
 
 
 def stays_below(front: str, sent: str) -> bool:

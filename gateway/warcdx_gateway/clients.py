@@ -17,7 +17,7 @@ from werkzeug.wrappers import Request, Response
 from warcdx import Capture
 
 from . import memento
-from .application import METHODS, WAYBACK_PATHS, Gateway, GatewayRequest, rule
+from .application import METHODS, WAYBACK_PATHS, Gateway, GatewayRequest, root_of, rule
 from .collection import Collection, Source
 from .history import History, first_moment, nearest_of, present_moment, quoted
 from .parameters import Form, is_number
@@ -107,7 +107,7 @@ def _with(query: str, name: str, value: str) -> str:
 
 def collinfo(gateway: Gateway, request: Request) -> Response:
     """Lists the collections as Common Crawl does."""
-    root = request.root_url.rstrip("/")
+    root = root_of(request)
     found = [
         {"id": each.name, "name": each.title, "timegate": f"{root}/{each.name}/", "cdx-api": f"{root}/{each.name}-index"}
         for each in gateway.listed

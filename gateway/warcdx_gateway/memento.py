@@ -12,9 +12,9 @@ from werkzeug.http import http_date, parse_date
 from werkzeug.routing import Rule
 from werkzeug.wrappers import Request, Response
 
-from warcdx import Capture
+from warcdx import Capture, Refused
 
-from .application import Gateway, rule, sent_path
+from .application import Gateway, root_of, rule, sent_path
 from .browse import embedding, responses
 from .browse.raw_captures import VARY, RawCapture, Window
 from .history import MOST, History, last_moment, quoted
@@ -72,7 +72,7 @@ class Resource:
             raise NotFound()
         has_scheme = re.match(r"[A-Za-z][A-Za-z0-9+.-]*://", url)
         self.url, self.original = url, url if has_scheme else f"http://{url}"
-        self.root = f"{request.root_url.rstrip('/')}/{collection or 'web'}"
+        self.root = f"{root_of(request)}/{collection or 'web'}"
         self.collection = gateway.collection(collection)
         self.history = History(self.collection.readable, url=url)
 
@@ -119,8 +119,7 @@ class Resource:
 
 def url_of(request: Request, segments: int) -> str:
     """Returns the URL behind the first segments of the path, as it was sent and with its query."""
-    path = sent_path(request).removeprefix(request.environ.get("SCRIPT_NAME", ""))
-    parts = path.encode("latin-1", "replace").decode(errors="replace").split("/", segments + 1)
+    parts = sent_path(request).encode("latin-1", "replace").decode(errors="replace").split("/", segments + 1)
     return parts[segments + 1] if len(parts) == segments + 2 else ""
 
 
@@ -139,7 +138,7 @@ def time_gate(gateway: Gateway, request: Request, collection: str, sent: str) ->
         resource = Resource(gateway, request, collection, found[2])
         year = f"&year={found[1][:4]}" if len(found[1]) >= 4 else ""
         target = f"/{resource.collection.name}/browse/search?url={quoted(resource.url)}{year}"
-        return redirect(request.root_url.rstrip("/") + target, {})
+        return redirect(root_of(request) + target, {})
     resource = Resource(gateway, request, collection, sent)
     vary = {"Vary": "accept-datetime"}
     wanted = request.headers.get("Accept-Datetime")
