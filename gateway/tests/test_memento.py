@@ -278,6 +278,7 @@ class Raw(support.Pages):
                 response(f"http://example.com/{name}", DATE, b"", status="301 Moved Permanently", http=[f"Location: {target}"])
                 for name, target in (
                     ("itself", "http://example.com/itself"), ("itself-in-other-words", "./itself-in-other-words#x"), ("nothing-else", ""),
+                    ("no-host", "http://exa mple/"), ("no-port", "http://example.com:99999/"), ("too-long", "/" + "x" * 66_000),
                 )
             ),
             response("https://example.com/secure", DATE, b"secure"),
@@ -366,7 +367,7 @@ class Raw(support.Pages):
             self.assertEqual(f"http://localhost/crawl/{wanted}", location)
             answer = self.client.get(location.removeprefix("http://localhost"))
             self.assertEqual((200, b"secure"), (answer.status_code, answer.data))
-        for name in ("alone", "itself", "itself-in-other-words", "nothing-else"):
+        for name in ("alone", "itself", "itself-in-other-words", "nothing-else", "no-host", "no-port", "too-long"):
             answer = self.raw(f"http://example.com/{name}")
             self.assertEqual((301, None), (answer.status_code, answer.headers.get("Location")), name)
 

@@ -5,7 +5,7 @@ import re
 from collections.abc import Callable
 from datetime import datetime, timezone
 from typing import Optional
-from urllib.parse import quote, unquote, urljoin
+from urllib.parse import quote, unquote
 
 from werkzeug.exceptions import NotFound
 from werkzeug.http import http_date, parse_date
@@ -234,17 +234,16 @@ def _capture_of(resource: Resource, capture: Capture, target: str) -> str:
     A redirect to another spelling of its URL, such as https, has the same URL key. It leads to a
     capture of that spelling, and never to itself.
     """
-    try:
-        url = urljoin(capture.original, target.strip())
-    except ValueError:
-        url = ""
-    if not url.startswith(("http://", "https://")):
-        return ""
-    history = History(resource.history.ask, url=url)
-    if history.nearest(capture.timestamp, url) == capture:
-        other = history.where("original", url).nearest(capture.timestamp)
-        return resource.memento(other) if other and other != capture else ""
-    return f"{resource.root}/{capture.timestamp}id_/{escaped(url)}"
+    target, at = target.strip(), capture.timestamp
+    url, fragment = embedding.joined(capture.original, target), "".join(target.partition("#")[1:])
+    with contextlib.suppress(Refused):  # it is no URL
+        if url.startswith(("http://", "https://")):
+            history = History(resource.history.ask, url=url)
+            if history.nearest(at, url) != capture:
+                return f"{resource.root}/{at}id_/{escaped(url + fragment)}"
+            other = history.where("original", url).nearest(at)
+            return resource.memento(other) if other and other != capture else ""
+    return ""
 
 
 def redirect(url: str, headers: dict[str, str]) -> Response:
