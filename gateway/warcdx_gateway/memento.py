@@ -24,6 +24,7 @@ LINK_FORMAT = "application/link-format"
 RAW = "id_"  # the mark of a capture as it was archived
 # The values of Sec-Fetch-Dest for what is shown in a window or in a frame.
 WINDOWS = ("document", "iframe", "frame", "embed", "object")
+VARIED = {"Vary": ", ".join(VARY)}
 MOST_MEMENTOS = 5000  # of a page of a TimeMap
 MOST_LINKS = 6000  # bytes of the field Link
 # What stays as it is in a URL of a link: the characters of RFC 3986.
@@ -133,7 +134,7 @@ def time_gate(gateway: Gateway, request: Request, collection: str, sent: str) ->
             return capture_of(gateway, request, collection, found[2], found[1], "")
         resource = Resource(gateway, request, collection, found[2])
         target = f"{resource.root}/{found[1]}id_/{escaped(resource.url)}"
-        return redirect(target, {"Vary": ", ".join(VARY)})
+        return redirect(target, VARIED)
     if found := _CALENDAR.fullmatch(sent):
         resource = Resource(gateway, request, collection, found[2])
         year = f"&year={found[1][:4]}" if len(found[1]) >= 4 else ""
@@ -211,7 +212,7 @@ def capture_of(gateway: Gateway, request: Request, collection: str, sent: str, t
     if capture is None:
         raise NotFound("there is no capture of this URL")
     if capture.timestamp != timestamp:
-        return redirect(resource.memento(capture, mark), {})
+        return redirect(resource.memento(capture, mark), VARIED)
     window = None
     if is_window(request):
         page = functools.partial(
@@ -225,6 +226,7 @@ def capture_of(gateway: Gateway, request: Request, collection: str, sent: str, t
         ask = resource.history.ask
         raw = RawCapture(request, resource.collection, ask, capture, stack, window)
         response = raw.response(own, functools.partial(_capture_of, resource, capture))
+    response.vary.update(VARY)
     return response
 
 

@@ -117,8 +117,7 @@ class RawCapture:
             raise NotShown("The payload can't be unpacked.", payload.fault, 422)
         page = window.page(replace(read, payload=payload))
         self._stack.close()
-        headers = {**responses.payload_headers(), **fields, "Vary": ", ".join(VARY)}
-        return Response(page, status, headers, content_type=reading.HTML_SHOWN)
+        return Response(page, status, {**responses.payload_headers(), **fields}, content_type=reading.HTML_SHOWN)
 
     def _with_payload(self, record: RecordStream) -> tuple[RecordStream, Optional[HttpHead]]:
         """Returns the record with the payload, and the head that is of it.
