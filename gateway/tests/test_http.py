@@ -100,6 +100,15 @@ class Http(Shared):
             self.assertEqual({**wanted.fields, "date": ""}, {**found.fields, "date": ""})
             self.assertEqual((wanted.status, b""), (found.status, found.body))
 
+    def test_no_answer_is_kept_without_a_question(self) -> None:
+        """A cache may otherwise choose for how long it gives what isn't shown any more."""
+        for target in (
+            "/cdx?url=example.com", "/cdx?url=a&x=1", "/web/timegate/http://example.com/", "/web/timemap/link/http://example.com/",
+            "/web/timegate/http://nosuch.example/", "/wayback/available?url=example.com", "/__wb/sparkline?url=example.com",
+            "/main?q=url:example.com", "/collinfo.json", "/main/browse", "/main/browse/search?url=example.com", "/", "/nosuch",
+        ):  # fmt: skip
+            self.assertEqual("no-cache", self.server.ask(target).fields["cache-control"], target)
+
     def test_pages_of_other_origins_may_not_read_answers(self) -> None:
         found = self.server.ask("/cdx?url=example.com", Origin="https://example.net")
         self.assertNotIn("access-control-allow-origin", found.fields)

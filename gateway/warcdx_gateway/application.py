@@ -178,6 +178,7 @@ class Gateway:
         self.work.settle()
         self.metrics.count(name, response.status_code)
         response.headers["X-Content-Type-Options"] = "nosniff"
+        response.headers.setdefault("Cache-Control", "no-cache")  # what may be shown changes
         if name and self.settings.origins:
             self._share(response, environ.get("HTTP_ORIGIN", ""))
         return Sent(self.work, self.metrics, environ, start, response(environ, start_response))

@@ -104,7 +104,7 @@ class Collection:
 
     def validators(self) -> dict[str, str]:
         """Returns the headers by which a client asks whether it has an answer already."""
-        headers = {"Cache-Control": "no-cache", "ETag": f'"{self.tag}"'}
+        headers = {"ETag": f'"{self.tag}"'}
         if not self.rules and time.time() - self.modified > SETTLED:  # else other files may have the same second
             headers["Last-Modified"] = self._date
         return headers

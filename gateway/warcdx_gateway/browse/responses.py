@@ -26,7 +26,7 @@ _MOST_NAME = 150  # characters of a file name
 
 
 def page(text: bytes, status: int = 200) -> Response:
-    headers = {**COMMON, "Content-Security-Policy": PAGE_POLICY, "Cache-Control": "no-cache"}
+    headers = {**COMMON, "Content-Security-Policy": PAGE_POLICY}
     if status == 503:
         headers["Retry-After"] = "1"  # seconds
     return Response(text, status, headers, content_type="text/html; charset=utf-8")
@@ -46,7 +46,7 @@ def redirect(path: str, status: int = 303) -> Response:
 
 def payload_headers() -> dict[str, str]:
     """Returns the headers of a payload: whatever its type is, it can't act."""
-    return {**COMMON, "Content-Security-Policy": PAYLOAD_POLICY, "Cache-Control": "no-cache"}
+    return {**COMMON, "Content-Security-Policy": PAYLOAD_POLICY}
 
 
 def attachment_headers(name: str) -> dict[str, str]:
@@ -55,7 +55,6 @@ def attachment_headers(name: str) -> dict[str, str]:
         **COMMON,
         "Content-Security-Policy": "sandbox; default-src 'none'; frame-ancestors 'none'",
         "Content-Disposition": disposition(name),
-        "Cache-Control": "no-cache",
     }
 
 
