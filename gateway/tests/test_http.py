@@ -182,12 +182,16 @@ class Origins(Case):
     def test_pages_of_the_origins_of_the_settings_may_read_answers(self) -> None:
         self.put(SAMPLE)
         server = self.start(head='origins = ["https://example.net"]\n')
-        for target in ("/cdx?url=example.com", "/cdx?url=a&x=1", "/main/index?url=example.com"):
+        for target in (
+            "/cdx?url=example.com", "/cdx?url=a&x=1", "/main/index?url=example.com", "/wayback/available?url=example.com",
+            "/__wb/sparkline?url=example.com",
+        ):  # fmt: skip
             found = server.ask(target, Origin="https://example.net")
-            self.assertEqual("https://example.net", found.fields["access-control-allow-origin"])
+            self.assertEqual("https://example.net", found.fields["access-control-allow-origin"], target)
             self.assertEqual("Origin", found.fields["vary"])
             found = server.ask(target, Origin="https://example.org")
             self.assertNotIn("access-control-allow-origin", found.fields)
+            self.assertEqual("Origin", found.fields["vary"])  # else a cache could give this answer to the other one
         found = server.ask("/cdx", "OPTIONS", Origin="https://example.net", Access_Control_Request_Method="GET")
         self.assertEqual(204, found.status)
         self.assertEqual("https://example.net", found.fields["access-control-allow-origin"])

@@ -38,6 +38,7 @@ FORM = "application/x-www-form-urlencoded"
 KINDS = {Output.TEXT: TEXT, Output.JSON: "application/json", Output.CDXJ: TEXT, Output.LINES: "text/x-ndjson; charset=utf-8"}
 # The paths of the main collection in the form of the Internet Archive.
 WAYBACK_PATHS = ("/cdx", "/cdx/search", "/cdx/search/cdx", "/cdx/search/xd", "/web/timemap", "/web/timemap/cdx", "/web/timemap/json")
+MAIN_PATHS = ("/cdx", "/web/", "/wayback/", "/__wb/")  # the fronts of all paths of the main collection
 MODULES = ("memento", "clients", "browse")  # each has `rules()`
 MOST_BODY = 1 << 17  # bytes of a request
 TOO_LONG = RequestEntityTooLarge(f"a body has at most {MOST_BODY} bytes")
@@ -196,8 +197,7 @@ class Gateway:
             if method == "OPTIONS" and self.settings.origins:
                 return self.settings.main, preflight(self._paths.allowed_methods(path))
             found, values = self._rule_of(path, method)
-            is_main = found.rule in WAYBACK_PATHS or found.rule.startswith("/web/")
-            name = values.get("collection", self.settings.main if is_main else "")
+            name = values.get("collection", self.settings.main if found.rule.startswith(MAIN_PATHS) else "")
             name = name if name in self.collections else ""
             is_listed = not name or self.collections[name].settings.listed
             if not is_listed and not stays_below(f"/{name}/", sent_path(request)):
@@ -244,13 +244,14 @@ class Gateway:
 
         What a browser shows, with a policy of its own, is for readers alone.
         """
-        allowed = "*" if "*" in self.settings.origins else origin
-        if "Content-Security-Policy" in response.headers or allowed not in self.settings.origins:
+        if "Content-Security-Policy" in response.headers:
             return
-        response.headers["Access-Control-Allow-Origin"] = allowed
-        response.headers["Access-Control-Expose-Headers"] = "ETag, Last-Modified, Link"
+        allowed = "*" if "*" in self.settings.origins else origin
         if allowed != "*":
-            response.headers.add("Vary", "Origin")
+            response.vary.add("Origin")
+        if allowed in self.settings.origins:
+            response.headers["Access-Control-Allow-Origin"] = allowed
+            response.headers["Access-Control-Expose-Headers"] = "ETag, Last-Modified, Link"
 
 
 def bad_body() -> Refusal:
