@@ -153,6 +153,17 @@ class Files(Case):
         found = client.get("/cdx?url=example.com")
         self.assertEqual((200, ""), (found.status_code, found.text))
 
+    def test_a_tag_does_not_tell_what_the_rules_are(self) -> None:
+        """Whoever guesses them could else find out whether that is so."""
+        rules, tags = rules_of(self.text('[[rules]]\naction = "exclude"\nembargo = 10\n'), "crawl"), []
+        for name in ("index", "other"):
+            each = CollectionSettings("crawl", "A crawl", (self.put(SAMPLE, name),))
+            main = gateway_of(self, Settings((each,), "crawl", program=PROGRAM)).main
+            main.rules = rules
+            tags.append(main.tag)
+        parts = [{tag[at : at + 10] for at in range(len(tag) - 9)} for tag in tags]
+        self.assertEqual(set(), parts[0] & parts[1])
+
     def test_a_file_that_is_no_rules_is_refused(self) -> None:
         good = '[[rules]]\naction = "exclude"\n'
         for text, said in (

@@ -56,7 +56,7 @@ class Collection:
 
     @property
     def tag(self) -> str:
-        return self._tag + self.rules.tag
+        return hashlib.sha256((self._state + self.rules.tag).encode()).hexdigest()[:20]
 
     @property
     def index(self) -> Index:
@@ -146,8 +146,7 @@ class Collection:
 
     def _use(self, generation: Generation) -> None:
         self.generation = generation
-        key = (self.settings, generation.stamp, self.limits)
-        self._tag = hashlib.sha256(repr(key).encode()).hexdigest()[:20]
+        self._state = hashlib.sha256(repr((self.settings, generation.stamp, self.limits)).encode()).hexdigest()
         self.modified = max(max(times[-2:]) for times in generation.stamp) // 10**9
         self._date = formatdate(self.modified, usegmt=True)
 

@@ -94,7 +94,7 @@ class Rules:
                 self._others.append(rule)
         self._lengths = sorted(set(map(len, self._fronts)))
         self._of_key = functools.lru_cache(256)(self._find)
-        self._digest = hashlib.sha256(repr(self._all).encode()).hexdigest()[:20]
+        self._digest = hashlib.sha256(repr(self._all).encode()).hexdigest()
         self._has_embargo = any(rule.embargo for rule in self._all)
         self._has_digest = any(rule.digest for rule in self._all)
         self._day = today()
@@ -109,8 +109,6 @@ class Rules:
 
     @property
     def tag(self) -> str:
-        if not self._all:
-            return ""
         return self._digest + (self._day.isoformat() if self._has_embargo else "")
 
     def action(self, key: str, timestamp: str, digest: str) -> int:
