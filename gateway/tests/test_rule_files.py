@@ -109,11 +109,12 @@ class Files(Case):
             clock.return_value += SETTLED
             found.look()
             self.assertIn(b'"bb"', found.text)
-            path.write_text("")  # as by an editor, for which the disk has no room
-            for _ in range(3):
-                clock.return_value += SETTLED
-                found.look()
-            self.assertIn(b'"bb"', found.text)
+            for text in ("", "# The rules"):  # as by an editor, for which the disk has no room
+                path.write_text(text)
+                for _ in range(3):
+                    clock.return_value += SETTLED
+                    found.look()
+                self.assertIn(b'"bb"', found.text)
             path.write_text("rules = []\n")
             for _ in range(3):
                 clock.return_value += SETTLED

@@ -195,10 +195,9 @@ class RulesFile:
 
     def _read(self, path: pathlib.Path) -> bytes:
         try:
-            content = path.read_bytes()
-            if not content and self.text != NONE:  # as where a full disk has cut it
+            tables = tomllib.loads(path.read_bytes().decode())
+            if not tables and self.text != NONE:  # as where a full disk has cut it
                 raise BadSettings("it is empty: rules = [] says that there are none")
-            tables = tomllib.loads(content.decode())
             return text_of(tables, self._program, self._collections)
         except OSError as error:
             raise BadSettings(f"{path}: {error.strerror}") from error
