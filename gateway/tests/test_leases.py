@@ -14,6 +14,7 @@ from unittest import mock
 from warcdx_gateway.refusal import Refusal
 from warcdx_gateway.shared import Beat
 from warcdx_gateway.waiting import MOST_LEVEL, QUEUES, Costs, Shares, Waiting, address_of, queue_of
+from warcdx_gateway.workers import Worker
 from warcdx_gateway.work import FREE, MOST_FREE, PATIENCE, Connection, Lease, NeedsSlot, Work
 
 from . import attacks, browse_support
@@ -216,6 +217,22 @@ class Waits(unittest.TestCase):
         self.assertGreaterEqual(count, 20)
         self.assertLess(count, 100)
         self.assertTrue(self.put(5))
+
+    def test_a_request_for_metrics_needs_no_slot(self) -> None:
+        """The next worker wouldn't know that it came by their address."""
+        worker = object.__new__(Worker)
+        worker.sockets = [mock.MagicMock(FAMILY=socket.AF_INET), mock.MagicMock(FAMILY=socket.AF_INET)]
+        for listener in worker.sockets:
+            listener.accept.return_value = socket.socket(), None
+        with mock.patch.object(Worker, "handle") as handle:
+            for listener in worker.sockets:
+                worker.accept(listener)
+        work = Work(10)
+        for number, call in enumerate(handle.call_args_list):
+            with call.args[1] as client, self.assertRaises(NeedsSlot) if number == 0 else contextlib.nullcontext():
+                work.begin(client)
+                work.expect_slot()
+            self.assertEqual(number == 1, client.is_for_metrics)
 
     def test_costs_are_remembered_for_a_time(self) -> None:
         costs = Costs()

@@ -208,9 +208,8 @@ class Worker(gunicorn.workers.sync.SyncWorker):
         address = address_of(str(addr[0]) if addr else "", "".join(forwarded[-1:]))
         # Two requests with bodies may have one URI, and differ in what they cost.
         costs, name = self.app.costs, "" if req.method == "POST" else f"{req.method} {req.uri}"
-        is_new = client.lease is Lease.FREE and not client.is_for_metrics
         is_costly = costs.level(name) > 0 or costs.level(address or "") > COSTLY_LEVEL
-        if not (is_new and is_costly):
+        if not (client.lease is Lease.FREE and is_costly):
             try:
                 super().handle_request(listener, req, client, addr)
                 return
@@ -240,9 +239,10 @@ class Worker(gunicorn.workers.sync.SyncWorker):
             if self.alive:
                 raise
             return False
-        family, arrived = listener.FAMILY, time.monotonic()
-        connection = Connection(client.detach(), Lease.FREE, arrived, family=family)
-        connection.is_for_metrics = listener is not self.sockets[0]
+        is_for_metrics = listener is not self.sockets[0]
+        lease = Lease.SLOT if is_for_metrics else Lease.FREE  # the next worker wouldn't know which address it came by
+        connection = Connection(client.detach(), lease, time.monotonic(), family=listener.FAMILY)
+        connection.is_for_metrics = is_for_metrics
         connection.setblocking(True)
         connection.setsockopt(socket.SOL_SOCKET, socket.SO_SNDBUF, MOST_FREE)
         self.handle(listener, connection, address)
