@@ -11,6 +11,7 @@ from unittest import mock
 
 from werkzeug.test import Client
 
+from warcdx import ProgramEnded
 from warcdx_gateway.rules import SETTLED, Action, RulesFile, rules_of
 from warcdx_gateway.settings import BadSettings, CollectionSettings, Settings
 
@@ -140,6 +141,23 @@ class Files(Case):
             clock.return_value += SETTLED
             found.look()
             self.assertIn(b'"bcd"', found.text)
+
+    def test_a_file_is_read_again_if_the_program_has_failed(self) -> None:
+        """It may be right, and has to come into use."""
+        path = self.put("rules = []\n", "rules")
+        with mock.patch("time.monotonic", return_value=100.0) as clock:
+            found = RulesFile(path, PROGRAM, ["main"])
+            path.write_text('[[rules]]\naction = "exclude"\nurl = "a.example"\n')
+            with mock.patch("warcdx_gateway.rules.keys_of", side_effect=ProgramEnded(-9, "")) as keys_of:
+                for _ in range(9):
+                    found.look()
+                    clock.return_value += SETTLED
+            keys_of.assert_called_once()
+            self.assertEqual(b"[]", found.text)
+            for _ in range(40):
+                clock.return_value += SETTLED
+                found.look()
+            self.assertIn(b"example,a", found.text)
 
     def test_rules_for_which_there_is_no_memory_open_nothing(self) -> None:
         self.put(SAMPLE)

@@ -31,6 +31,7 @@ NAMES = ("action", "embargo", *TEXTS)
 WEB = ("http://", "https://")
 _SCHEME = re.compile(r"[A-Za-z][A-Za-z0-9+.-]*:")
 SETTLED = 2.0  # seconds for which a file has stayed as it is before it is read again
+AGAIN = 60.0  # seconds until a file is read again for whose URLs no keys could be had
 _STAMP = re.compile("[0-9]{1,14}")
 _DIGEST = re.compile("[!-~]+")
 _HEX_OF_SHA1 = re.compile("[0-9A-F]{40}")
@@ -183,6 +184,8 @@ class RulesFile:
             say(f"{self._path}: the rules were read again")
         except BadSettings as error:
             say(f"the old rules stay in use: {error}")
+            if isinstance(error.__cause__, Error):  # the program has failed, as for want of memory
+                self._read_at, self._since = (), now + AGAIN
 
     def _identity(self) -> tuple[int, ...]:
         if self._path is None:
