@@ -36,7 +36,8 @@ class Collection:
     `rules` say what of it may be shown, and `is_alone` that it is the only one that is listed.
 
     `work` bounds what is read for the present request. `generation` is the files that are in use.
-    `is_old` says that other files have got the names and aren't in use, and `is_usable` is False if the files in use are known not to be in order.
+    `is_old` says that other files have got the names and aren't in use, and `is_usable` is False if the files in use are
+    known not to be in order.
     """
 
     def __init__(self, each: CollectionSettings, settings: Settings, generation: Generation) -> None:

@@ -30,17 +30,10 @@ class History:
         target = f"key={quoted(key)}" if key else f"url={quoted(url)}"
         self._target = f"{target}&matchType=exact"
 
-    def where(self, field: str, value: str) -> "History":
-        """Returns the history of the captures with a value."""
-        return self._with(f"&is={field}:{quoted(value)}")
-
-    def without(self, field: str, value: str) -> "History":
-        """Returns the history of the captures with another value."""
-        return self._with(f"&isnot={field}:{quoted(value)}")
-
-    def _with(self, condition: str) -> "History":
+    def where(self, field: str, value: str, test: str = "is") -> "History":
+        """Returns the history of the captures with a value, or with `isnot` of those with another one."""
         found = History(self.ask)
-        found._target = self._target + condition
+        found._target = f"{self._target}&{test}={field}:{quoted(value)}"
         return found
 
     def first(self, since: int = FIRST) -> Optional[Capture]:

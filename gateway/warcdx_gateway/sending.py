@@ -1,6 +1,6 @@
 """Answers in pieces, as gunicorn sends them."""
-import contextlib
 import errno
+import itertools
 import socket
 import struct
 import time
@@ -74,11 +74,7 @@ def streamed(pieces: Generator[bytes, None, None], headers: Headers, work: Work)
         size += len(piece)
         if size > MOST_FREE:
             work.expect_slot()
-            return Response(joined(begun, pieces), 200, headers)
+            response = Response(itertools.chain(begun, pieces), 200, headers)
+            response.call_on_close(pieces.close)
+            return response
     return Response(b"".join(begun), 200, headers)
-
-
-def joined(begun: list[bytes], pieces: Generator[bytes, None, None]) -> Iterator[bytes]:
-    with contextlib.closing(pieces):
-        yield from begun
-        yield from pieces

@@ -50,16 +50,8 @@ class Slots:
 
     _LOCK = struct.Struct("hhqqi4x")  # struct flock of fcntl(2)
 
-    def __init__(self, count: int) -> None:
+    def __init__(self) -> None:
         self._file = os.memfd_create("slots")
-        self._count = count
-
-    def take(self) -> Optional[tuple[int, BinaryIO]]:
-        """Returns the number of a slot that was free and its open file, or None."""
-        for number in range(self._count):
-            if (file := self.take_one(number)) is not None:
-                return number, file
-        return None
 
     def take_one(self, number: int, waits: bool = False) -> Optional[BinaryIO]:
         """Returns the open file of a slot, or None if another process has it. It can be waited for."""
@@ -115,7 +107,7 @@ class Metrics:
 
     def __init__(self, folder: pathlib.Path, workers: int = 1) -> None:
         self._folder = folder
-        self._seats = Slots(MOST_SEATS)
+        self._seats = Slots()
         self._seat = "master"
         seats = "master", *map(str, range(2 * workers))
         self._files = [folder / f"{kind}_{seat}.db" for seat in seats for kind in ("counter", "gauge_max", "histogram")]
@@ -151,9 +143,10 @@ class Metrics:
 
     def sit(self) -> None:
         """Takes a seat, in a new worker."""
-        self._taken = self._seats.take()  # its file stays open
-        if self._taken is not None:
-            self._seat = str(self._taken[0])
+        for number in range(MOST_SEATS):
+            if (taken := self._seats.take_one(number)) is not None:
+                self._seat, self._taken = str(number), taken  # which stays open
+                break
         self.bytes.inc(0)  # which opens the files of the seat
 
     def keep(self) -> None:

@@ -15,7 +15,7 @@ import time
 from collections.abc import Iterator
 from typing import Optional
 
-from .settings import MOST_WORKERS, is_loopback
+from .settings import is_loopback
 from .shared import Slots
 from .work import Connection, Lease
 
@@ -34,7 +34,7 @@ class Waiting:
     """The queues, and the slots that are waited for. They stay when the settings are read again."""
 
     def __init__(self) -> None:
-        self.slots, self.turn = Slots(MOST_WORKERS), Slots(1)
+        self.slots, self.turn = Slots(), Slots()
         self._has_ended = mmap.mmap(-1, 1)  # whether no worker takes what waits from now on
         self._ends = [socket.socketpair(socket.AF_UNIX, socket.SOCK_SEQPACKET) for _ in range(QUEUES)]
         for pair in self._ends:
@@ -167,8 +167,8 @@ class Shares:
 class Costs:
     """Which requests and addresses were costly of late, so that they begin with waiting.
 
-    Other workers write to the same memory, and have the same hashes, as one process has started all. A part that is read while it is written is no fault:
-    a request then waits, or has its free moment.
+    Other workers write to the same memory, and have the same hashes, as one process has started all. A part that is read
+    while it is written is no fault: a request then waits, or has its free moment.
     """
 
     def __init__(self) -> None:

@@ -3,6 +3,8 @@ import datetime
 import re
 from typing import Optional
 
+from ..history import first_moment
+
 MONTHS = (
     "January", "February", "March", "April", "May", "June",
     "July", "August", "September", "October", "November", "December",
@@ -10,7 +12,6 @@ MONTHS = (
 DAYS = ("Monday", "Tuesday", "Wednesday", "Thursday", "Friday", "Saturday", "Sunday")
 _TYPED = re.compile(r"(\d{4})(?:-?(\d\d)(?:-?(\d\d))?)?", re.ASCII)
 _TIMESTAMP = re.compile(r"\d{14}", re.ASCII)
-_FIRST = "00000101000000"  # of a timestamp whose first digits replace these
 
 
 def day_of(digits: str) -> Optional[datetime.date]:
@@ -55,7 +56,7 @@ def machine_time(timestamp: str) -> Optional[str]:
 def timestamp_of(date: str) -> Optional[str]:
     """Returns the timestamp of a value of WARC-Date, whose last parts may be absent, or None."""
     digits = re.sub(r"\D", "", date.partition(".")[0])
-    filled = digits + _FIRST[len(digits) :]
+    filled = first_moment(digits)
     return filled if len(digits) >= 4 and _TIMESTAMP.fullmatch(filled) else None
 
 

@@ -106,7 +106,7 @@ def original_of(ask: Ask, head: Head) -> Optional[Capture]:
 def before(ask: Ask, url: str, head: Head) -> Optional[Capture]:
     """Returns the last capture before a record that has a payload of a URL, or None."""
     timestamp = timestamp_of(head.field("WARC-Date") or "")
-    history = History(ask, url=url).without("mimetype", REVISIT).without("statuscode", "304")
+    history = History(ask, url=url).where("mimetype", REVISIT, "isnot").where("statuscode", "304", "isnot")
     return history.before(timestamp) if timestamp else None
 
 
