@@ -84,6 +84,13 @@ class Http(Shared):
                 client.send(head.encode() + body)
                 self.assertEqual(status, client.response().status, kind[:99])
 
+    def test_a_server_in_front_says_which_scheme_links_have(self) -> None:
+        """It may be on another machine."""
+        for address in ("127.0.0.1", "127.0.0.2"):
+            with socket.create_connection(self.server.address, WAIT, (address, 0)) as client:
+                client.sendall(b"GET /collinfo.json HTTP/1.0\r\nHost: localhost\r\nX-Forwarded-Proto: https\r\n\r\n")
+                self.assertIn('"https://localhost/main/"', client.makefile().read(), address)
+
     def test_a_target_may_name_the_server(self) -> None:
         for scheme in ("http", "HTTP", "Https"):
             for path, status in (

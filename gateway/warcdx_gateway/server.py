@@ -66,6 +66,7 @@ class Server(BaseApplication):
             "timeout": settings.timeout,
             "graceful_timeout": settings.limits.drain,
             "backlog": BACKLOG,
+            "forwarded_allow_ips": "*",  # the scheme of its links is what a client says, or a server in front
             "limit_request_line": MOST_LINE,
             "preload_app": True,
             "logger_class": Log,
