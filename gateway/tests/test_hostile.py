@@ -239,6 +239,11 @@ class Requests(Case):
             self.assertEqual(400, found.status, query)
             self.assertIn("refused NotText", found.text)
 
+    def test_a_resume_key_of_many_parts_is_refused_at_once(self) -> None:
+        """Each part may be read in two ways."""
+        for key in ("a%2520" * 10_000 + "!", "a%252520" * 7000 + "%20", "+" * 60_000, "a%2B" * 10_000 + "!"):
+            self.assertIn("refused BadResume", self.server.ask(f"/cdx?url=example.com&resumeKey={key}").text, key[:20])
+
     def test_requests_that_can_not_be_read_leave_no_line(self) -> None:
         for request in (
             b"GET http://[ HTTP/1.1\r\nHost: localhost\r\n\r\n",

@@ -62,7 +62,7 @@ CLIENT_FLAGS = frozenset(
 # script, and what depends on columns that indexes in CDXJ don't have.
 IGNORED = frozenset(("_", "callback", "omitSelfRedirects"))
 TRANSLATED = CLIENT_FLAGS | IGNORED | frozenset("closest collapseTime limit output page resumeKey sort".split())
-PLACE = re.compile(r"[A-Za-z0-9*._%-]+(?:(?:\+|%20)[A-Za-z0-9*._%-]+)+")  # a resume key, encoded
+PLACE = re.compile(r"(?=.+?(?:\+|%20))[A-Za-z0-9*._%+-]+")  # a resume key, encoded
 ESCAPED = re.compile("[%+]")
 CHECKS = {name: re.compile(pattern, re.DOTALL) for name, (pattern, _, _) in SINGLE.items()}
 
