@@ -152,6 +152,16 @@ class Isolated(Case):
         self.wait_for(lambda: is_idle(server), "the work goes on")
         self.assertEqual("", server.said.read_text())
 
+    def test_fields_and_queries_that_take_long_to_read(self) -> None:
+        self.put(SAMPLE)
+        server = self.start()
+        blanks = "a" + " " * 8000 + "b"
+        with self.bounded(server):
+            for _ in range(60):
+                self.assertEqual(b"300\n", server.ask("/cdx?url=example.com/a&fl=length", If_None_Match=blanks, Accept=blanks).body)
+                found = server.ask("/__wb/sparkline?url=example.com/a" + "&a=1" * 16_000)
+                self.assertEqual((400, "refused TooMany: a query has at most 1000 parameters\n"), (found.status, found.text))
+
     def test_revisits_of_one_key(self) -> None:
         """The originals of a key are read once."""
         original = LINE % ("a", "20160101000000", "a", "text/html", "200", "AAAA", 1, 0, "a.warc")

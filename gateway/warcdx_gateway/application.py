@@ -41,6 +41,7 @@ WAYBACK_PATHS = ("/cdx", "/cdx/search", "/cdx/search/cdx", "/cdx/search/xd", "/w
 MAIN_PATHS = ("/cdx", "/web/", "/wayback/", "/__wb/")  # the fronts of all paths of the main collection
 MODULES = ("memento", "clients", "browse")  # each has `rules()`
 MOST_BODY = 1 << 17  # bytes of a request
+MOST_PARAMETERS = 1000  # of a query in a path
 TOO_LONG = RequestEntityTooLarge(f"a body has at most {MOST_BODY} bytes")
 MOST_PATHS = 64  # whose rules are remembered
 HEALTH_SECONDS = 5
@@ -193,6 +194,8 @@ class Gateway:
             if client is not None and client.is_for_metrics:
                 return "", show_metrics(self) if path == "/metrics" else http_response(NotFound())
             self._check_host(request)
+            if request.query_string.count(b"&") > MOST_PARAMETERS:
+                raise Refusal("TooMany", "", f"a query has at most {MOST_PARAMETERS} parameters")
             self.look()
             if method == "OPTIONS" and self.settings.origins:
                 return self.settings.main, preflight(self._paths.allowed_methods(path))
@@ -315,10 +318,15 @@ def is_unchanged(request: Request, headers: Mapping[str, str]) -> bool:
 
     An index of before may have come back. So only the very time that was sent is taken.
     """
-    if "HTTP_IF_NONE_MATCH" in request.environ:
-        return request.if_none_match.contains_weak(headers["ETag"].strip('"'))
+    if (known := request.headers.get("If-None-Match")) is not None:
+        return has_tag(known, headers["ETag"])
     since = request.environ.get("HTTP_IF_MODIFIED_SINCE")
     return since is not None and since == headers.get("Last-Modified")
+
+
+def has_tag(field: str, tag: str) -> bool:
+    """Returns whether a condition of a request names a tag, which is in quotes. Werkzeug reads some for a long time."""
+    return field.strip() == "*" or tag in field
 
 
 def preflight(methods: Iterable[str]) -> Response:

@@ -14,6 +14,7 @@ from warcdx.fetching import is_unmodified
 from warcdx.http_messages import HttpHead
 from warcdx.record import RecordStream, without_brackets
 
+from ..application import has_tag
 from ..collection import Collection
 from ..history import Ask
 from ..work import Work
@@ -176,18 +177,18 @@ def conditional(response: Response, request: Request, size: Optional[int]) -> Re
     """
     if response.status_code != 200:
         return response
-    tag = response.get_etag()[0] or ""
-    if "If-Match" in request.headers and not request.if_match.contains(tag):
+    tag = response.headers["ETag"]
+    # A tag that is weak, as nginx has made it of compressed bytes, is no match for a part.
+    if not has_tag(request.headers.get("If-Match", "*").replace(f"W/{tag}", ""), tag):
         response.close()
         return Response("The payload isn't the one that the request names.\n", 412)
-    if request.if_none_match.contains_weak(tag):
+    if has_tag(request.headers.get("If-None-Match", ""), tag):
         response.close()
         return Response(b"", NOT_MODIFIED, response.headers)
     if size is None:
         return response
     response.content_length = size
-    # A tag that nginx has made weak is of compressed bytes.
-    is_whole = request.method != "GET" or request.headers.get("If-Range") not in (None, f'"{tag}"')
+    is_whole = request.method != "GET" or request.headers.get("If-Range") not in (None, tag)
     asked = None if is_whole else _RANGE.fullmatch(request.headers.get("Range", "").strip())
     first, last = asked.groups() if asked else ("", "")
     if not first + last or (first and last and int(first) > int(last)):
