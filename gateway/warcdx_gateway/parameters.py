@@ -18,7 +18,8 @@ FIELD_LIST = ", ".join(FIELDS)
 ADDED = (*UNKNOWN, *GROUPED, *ORIGINALS, "dupecount")
 FIELD = "|".join(map(re.escape, (*FIELDS, *PYWB_NAMES, *ADDED)))
 COLUMNS = f"(?:{FIELD})(?:,(?:{FIELD}))*"
-FLAG = ("true|false", "BadFlag", "it is true or false")
+FLAGS = "fastLatest gzip lastSkipTimestamp resolveRevisits reverse showDupeCount showGroupCount showNumPages showResumeKey".split()
+FLAGS += ["showSkipCount", "showUniqCount"]
 STAMP = ("[0-9]{1,14}", "BadStamp", "it is 1 to 14 digits")
 LIMIT = "-?0{0,6}[1-9][0-9]{0,17}"
 SORTS = "default|regular|reverse|closest"
@@ -33,31 +34,18 @@ SINGLE = {
     "to": STAMP,
     "limit": (LIMIT, "BadLimit", "it is a number from 1 on, or such a number after a -"),
     "resumeKey": ("[^ ]* [0-9]{14} .+ [0-9]+", "BadResume", "it isn't the resume key of a page"),
-    "showResumeKey": FLAG,
     "fl": (COLUMNS, "BadField", f"it is a list of fields, separated by commas: {FIELD_LIST}"),
     "output": ("text|json|cdxj", "BadOutput", "it is text, json or cdxj"),
-    "gzip": FLAG,
     "page": (NUMBER, "BadPage", "it is a number of at most 7 digits"),
     "pageSize": (f"(?!0+$){NUMBER}", "BadPage", "it is a number from 1 on of at most 7 digits"),
-    "showNumPages": FLAG,
-    "fastLatest": FLAG,
     "closest": STAMP,
     "sort": (SORTS, "BadSort", "it is one of default, regular, reverse, closest"),
-    "reverse": FLAG,
-    "resolveRevisits": FLAG,
-    "showDupeCount": FLAG,
-    "showGroupCount": FLAG,
-    "showUniqCount": FLAG,
     "offset": (NUMBER, "BadPage", "it is a number of at most 7 digits"),
-    "showSkipCount": FLAG,
-    "lastSkipTimestamp": FLAG,
+    **dict.fromkeys(FLAGS, ("true|false", "BadFlag", "it is true or false")),
 }
 KNOWN = frozenset((*TESTS, *SINGLE, "filter", "collapse"))
 EMPTY = frozenset(("url", "key", *TESTS))  # which mean something without a value
-CLIENT_FLAGS = frozenset(
-    "fastLatest gzip lastSkipTimestamp omitSelfRedirects resolveRevisits reverse showDupeCount "
-    "showGroupCount showNumPages showPagedIndex showResumeKey showSkipCount showUniqCount".split()
-)
+CLIENT_FLAGS = frozenset((*FLAGS, "omitSelfRedirects", "showPagedIndex"))
 # Parameters that change no answer here: a number against caches, the name of a function of a page's
 # script, and what depends on columns that indexes in CDXJ don't have.
 IGNORED = frozenset(("_", "callback", "omitSelfRedirects"))

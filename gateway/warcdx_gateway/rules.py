@@ -18,11 +18,11 @@ from warcdx import Error
 from warcdx.url_keys import host_of, keys_of
 
 from .refusal import say
+from .rows import DIGEST, KEY, STAMP
 from .settings import BadSettings
 
 MOST = 32 << 20  # bytes of the rules as the workers get them
 NONE = b"[]"  # the text of no rules
-KEY, STAMP, DIGEST = 0, 1, 5  # the places of these fields in a row of all fields
 ACTIONS = {"metadata": 1, "exclude": 2}
 STARLESS = ("url", "prefix", "host", "domain")  # in which a star, as of a query, would be a character like any other
 TARGETS = (*STARLESS, "key")

@@ -6,6 +6,7 @@ from typing import NamedTuple, Optional, TypeVar
 from urllib.parse import quote_plus, unquote_plus
 
 from warcdx import FIELDS
+from warcdx.fetching import REVISIT
 
 from .collection import Source, values_of
 from .conditions import Conditions
@@ -15,7 +16,6 @@ from .ranges import Positions, Range
 from .rows import DIGEST, KEY, MIME, PLACES, STAMP, STATUS, UNKNOWN_PART, Collapser, Grouper, Output, Part, Row, row_of_line, row_of_values
 from .settings import Limits
 
-REVISIT = "warc/revisit"
 ORIGINAL = ("digest", "mimetype", "statuscode", "length", "offset", "filename")
 MOST_PART = 6 << 20  # bytes of an index that are copied at once
 LEAST_PART = 1 << 16  # bytes that are read backwards at first

@@ -4,8 +4,8 @@ from dataclasses import dataclass, replace
 from typing import Optional
 
 from warcdx import Capture
+from warcdx.fetching import REVISIT
 
-from ..selection import REVISIT
 from ..collection import Collection, Source
 from ..history import Ask, quoted
 from . import dates

@@ -6,10 +6,9 @@ from dataclasses import dataclass
 from typing import Optional
 
 from warcdx import Capture, Refused, fetching
-from warcdx.fetching import is_unmodified, url_of_original
+from warcdx.fetching import REVISIT, is_unmodified, url_of_original
 from warcdx.record import Head
 
-from ..selection import REVISIT
 from ..collection import Collection
 from ..history import MOST, Ask, History, before_time, quoted, resumed
 from .dates import timestamp_of
