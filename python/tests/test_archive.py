@@ -76,6 +76,9 @@ class Archives(Case):
             self.assertEqual(found.advice, pickle.loads(pickle.dumps(found)).advice)
         found = self.raises(faults.CannotOpen, Archive(self.folder / "nosuch", program=PROGRAM).get, 0)
         self.assertEqual("", found.advice)
+        archive = Archive(self.put("x", "a\n  b"), program=PROGRAM)  # a line of the name reads like a second line of the message
+        found = self.raises(faults.Version, archive.get, 0)
+        self.assertEqual((archive.path, "No record begins there: "), (found.file, found.advice[:24]))
 
     def test_a_program_that_is_killed_has_ended(self) -> None:
         text = f'[ "$1" = list ] || exec "{PROGRAM}" "$@"\nprintf "0 264 response\\n264 18"; kill -9 $$'

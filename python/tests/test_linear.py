@@ -60,7 +60,7 @@ GZIP, DEFLATE, BR = (body_of(b"HTTP/1.1 200\r\nContent-Encoding: " + each) for e
 LINE_BREAKS = (b" \r\n", b"\r\n ", b"\r\n \r\n", b"\n", b"\n ", b" \n", b"\r", b"\r\r\n ")
 BLANKS = (b" ", b"\t", b" \t", b"a ", *LINE_BREAKS, b":", b"x: y\r\n")
 CODINGS = (b",", b" ", b"Content-Encoding: a,\n", b"Content-Encoding:,\n", b":\n")
-SAID = (b": fault 1 ", b": ", b": fault ", b"1", b": BadLine 1")
+SAID = (b": fault 1 ", b": ", b": fault ", b"1", b": BadLine 1", b": fault 1 X\n  ", b"\n  ")
 SHAPES = (
     *(Shape(Head.fields_of, FIRST + b"X: a", each, after) for each in BLANKS for after in (b"", b"b")),
     *(Shape(HttpHead.of, b"HTTP/1.1 200\r\nX: a", each, after) for each in BLANKS for after in (b"", b"b")),

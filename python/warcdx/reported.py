@@ -5,14 +5,15 @@ from typing import Optional
 from . import faults, refusals
 from .errors import Error, Fault, ProgramEnded, Refused
 
-# What the program says. The expressions are compiled when one is needed first, as most runs of Python need none.
-_FAULT_AT = r"warcdx(?:-gz)?: (.*): fault ([0-9]+) ([A-Za-z0-9]+)\n?"
-_LINE_AT = r"warcdx(?:-gz)?: (.*): (BadLine|OutOfOrder) ([0-9]+)\n?"
-_QUERY = r"warcdx(?:-gz)?: query: ([A-Za-z0-9]+)\n?"
-_FILE = r"warcdx(?:-gz)?: (.*): ([A-Za-z0-9]+|cannot open)\n?"
-_ALONE = r"warcdx(?:-gz)?: ([A-Za-z0-9]+|cannot flush)\n?"
-_ADVICE = r"^  .*\n?"  # the second line of a message
-_SYSTEM = r"^  .*\(os error ([0-9]+)\)$"  # the second line about a failed system call
+# What the program says: a message, and maybe a second line, which begins with two spaces. So may a line of a file's name.
+# The expressions are compiled when one is needed first, as most runs of Python need none.
+_MESSAGE = r"warcdx(?:-gz)?: %s(?:\n  (?P<advice>[^\n]*))?\n?"
+_FAULT_AT = _MESSAGE % "(.*): fault ([0-9]+) ([A-Za-z0-9]+)"
+_LINE_AT = _MESSAGE % "(.*): (BadLine|OutOfOrder) ([0-9]+)"
+_QUERY = _MESSAGE % "query: ([A-Za-z0-9]+)"
+_FILE = _MESSAGE % "(.*): ([A-Za-z0-9]+|cannot open)"
+_ALONE = _MESSAGE % "([A-Za-z0-9]+|cannot flush)"
+_SYSTEM = r".*\(os error ([0-9]+)\)"  # the second line about a failed system call
 _NAMES = {"cannot open": "CannotOpen", "cannot flush": "CannotFlush"}
 
 
@@ -26,42 +27,36 @@ def fault(name: str, file: Optional[str] = None, offset: Optional[int] = None, n
     return faults.BY_NAME.get(name, Fault)(name, file, offset, number)
 
 
-def _without_advice(said: str) -> str:
-    """Returns what the program has said without the second lines of its messages, which begin with two spaces."""
-    return re.sub(_ADVICE, "", said, flags=re.MULTILINE)
-
-
 def advice_in(said: str) -> str:
-    """Returns the first of the second lines of messages, but for those with the system's reason, or an empty text."""
-    lines = (found.strip() for found in re.findall(_ADVICE, said, re.MULTILINE) if not re.match(_SYSTEM, found))
-    return next(lines, "")
+    """Returns the second line of a message, unless it is the system's reason, or an empty text."""
+    last = said.removesuffix("\n").rpartition("\n")[2]
+    return _advice_of(last[2:]) if last.startswith("  ") else ""
+
+
+def _advice_of(line: Optional[str]) -> str:
+    return "" if line is None or re.fullmatch(_SYSTEM, line) else line
 
 
 def error_of(status: int, said: str, program: str = "warcdx") -> Error:
     """Returns what a program of this name has reported on standard error before it ended."""
-    error = _error_of(status, said, program)
-    if isinstance(error, Fault):
-        error.advice = advice_in(said)
+    if found := re.fullmatch(_QUERY, said):
+        return refused(found[1])
+    if found := re.fullmatch(_FAULT_AT, said, re.DOTALL):
+        error = fault(found[3], found[1], int(found[2]))
+    elif found := re.fullmatch(_LINE_AT, said, re.DOTALL):
+        error = fault(found[2], found[1], int(found[3]))
+    elif found := re.fullmatch(_FILE, said, re.DOTALL):
+        error = _fault_of_file(_NAMES.get(found[2], found[2]), found[1], found["advice"] or "")
+    elif found := re.fullmatch(_ALONE, said):
+        error = fault(_NAMES.get(found[1], found[1]))
+    else:
+        return ProgramEnded(status, re.sub("^  .*\n?", "", said, flags=re.MULTILINE), program)
+    error.advice = _advice_of(found["advice"])
     return error
 
 
-def _error_of(status: int, said: str, program: str) -> Error:
-    system = re.search(_SYSTEM, said, re.MULTILINE)
-    said = _without_advice(said)
-    if found := re.fullmatch(_FAULT_AT, said, re.DOTALL):
-        return fault(found[3], found[1], int(found[2]))
-    if found := re.fullmatch(_LINE_AT, said, re.DOTALL):
-        return fault(found[2], found[1], int(found[3]))
-    if found := re.fullmatch(_QUERY, said):
-        return refused(found[1])
-    if found := re.fullmatch(_FILE, said, re.DOTALL):
-        return _fault_of_file(_NAMES.get(found[2], found[2]), found[1], system)
-    if found := re.fullmatch(_ALONE, said):
-        return fault(_NAMES.get(found[1], found[1]))
-    return ProgramEnded(status, said, program)
-
-
-def _fault_of_file(name: str, file: str, system: Optional[re.Match[str]]) -> Fault:
+def _fault_of_file(name: str, file: str, line: str) -> Fault:
     if name == "CannotOpen":
+        system = re.fullmatch(_SYSTEM, line)
         return faults.cannot_open(file, int(system[1]) if system else None)
     return fault(name, file)
