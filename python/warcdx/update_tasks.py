@@ -78,8 +78,7 @@ def index_archives(
             assert process.stdout is not None
             for piece in _whole_lines(io.BufferedReader(_Watched(process.stdout, expect_no_change))):
                 lines.write(piece)
-            status, text = _wait(process), _text_of(said)
-        causes = _causes_of(text, names)
+            status, causes, text = _wait(process), _causes_of(said, names), _text_of(said)
         if status not in (0, FAULT) or status and not any(causes.values()):
             why = causes[names[0]] or text if len(names) == 1 else ""
             raise Failed(why or f"{program} has ended with status {status}")
@@ -307,24 +306,25 @@ def _whole_lines(file: IO[bytes]) -> Iterator[bytes]:
         raise Failed("the last line isn't whole")
 
 
-def _causes_of(text: str, names: Sequence[str]) -> dict[str, str]:
+def _causes_of(said: IO[bytes], names: Sequence[str]) -> dict[str, str]:
     """Returns what a program has reported of each archive, without the names of both. Raises Failed if more is said of several.
 
     More may be said by the system, as of a library that isn't there.
     """
     if len(names) == 1:
-        return {names[0]: text.partition(f": ./{names[0]}: ")[2]}
+        return {names[0]: _text_of(said, f": ./{names[0]}: ")}
     causes = dict.fromkeys(names, "")
-    for line in filter(None, text.split("\n")):
+    for line in filter(None, _text_of(said).split("\n")):
         name, _, cause = line.partition(": ./")[2].rpartition(": ")
         if name not in causes:
-            raise Failed(text)
+            raise Failed(line)
         causes[name] = cause
     return causes
 
 
-def _text_of(said: IO[bytes]) -> str:
-    """Returns what a program has said, without the second lines of its messages, which begin with two spaces."""
+def _text_of(said: IO[bytes], front: str = "") -> str:
+    """Returns what a program has said behind this front, without the second lines of its messages, which begin with two spaces."""
     said.seek(0)
-    lines = said.read().decode(errors="replace").split("\n")
+    text = said.read().decode(errors="replace")
+    lines = (text.partition(front)[2] if front else text).split("\n")
     return "\n".join(line for line in lines if line and not line.startswith("  "))

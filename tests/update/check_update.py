@@ -142,12 +142,14 @@ def a_file_may_have_any_name(program: pathlib.Path, folder: pathlib.Path) -> Non
     good = ("-x.warc", ".hidden.warc", ".warc", "a b.warc", "a\nb.warc", "\x1b[31m.warc", "*.warc", "$(false).warc", f"{'n' * 250}.warc", 'é"\\.warc')
     for name in (*good, os.fsdecode(b"\xff.warc")):
         copy_sample("response", trial.archives / name)
-    copy_sample("damaged", trial.archives / "damaged\n\x1b.warc")
+    damaged = ("damaged\n\x1b.warc", "damaged\n  x.warc")  # a line of the second name reads like a second line of a message
+    for name in damaged:
+        copy_sample("damaged", trial.archives / name)
     (trial.archives / "folder.warc").mkdir()
     os.mkfifo(trial.archives / "pipe.warc")
     archives = sorted(path for path in trial.archives.iterdir() if path.is_file() and path.name != os.fsdecode(b"\xff.warc"))
     expect("status", trial.run(), 3)
-    faulty = {"07.warc": 1, "damaged\n\x1b.warc": 1, "pipe.warc": 3, os.fsdecode(b"\xff.warc"): 3}
+    faulty = {"07.warc": 1, **dict.fromkeys(damaged, 1), "pipe.warc": 3, os.fsdecode(b"\xff.warc"): 3}
     trial.expect_results(faulty, index_of(program, archives))
     expect("lines of faults", sum(": fault " in line or "; left out" in line for line in trial.said), len(faulty))
     said = (folder / "said").read_text()
