@@ -94,38 +94,27 @@ def parameter_of(cause: str, query: Query) -> Optional[str]:
     """
     if cause in _ONLY:
         return _ONLY[cause]
-    is_refused = _CHECKS.get(cause)
-    before: set[str] = set()
-    for piece in query.pieces if is_refused is not None else ():
+    is_refused = _CHECKS.get(cause, lambda *_: False)
+    before = set[str]()
+    for piece in query.pieces:
         name, _, value = piece.partition("=")
         name = unquote_plus(name)
-        if is_refused is not None and is_refused(name, unquote_plus(value), before):
+        if is_refused(name, unquote_plus(value), before):
             return name
         before.add(name)
     return None
 
 
-def _is_unknown(name: str, value: str, before: set[str]) -> bool:
-    return name not in _REPEATABLE + _ONCE
-
-
-def _is_repeated(name: str, value: str, before: set[str]) -> bool:
-    return name in _ONCE and name in before
-
-
-def _is_bad_stamp(name: str, value: str, before: set[str]) -> bool:
-    return name in ("from", "to") and not _STAMP.fullmatch(value)
-
-
-def _is_bad_filter(name: str, value: str, before: set[str]) -> bool:
+def _is_bad_filter(name: str, value: str) -> bool:
     condition = value[1:] if name == "filter" and value.startswith("!") else value
     field, colon, _ = condition.partition(":")
     return name in _REPEATABLE and (not colon or field not in FIELDS)
 
 
+# Whether a cause is that of a parameter, by its name, its value and the names before it.
 _CHECKS: dict[str, Callable[[str, str, set[str]], bool]] = {
-    "Unknown": _is_unknown,
-    "RepeatedParameter": _is_repeated,
-    "BadStamp": _is_bad_stamp,
-    "BadFilter": _is_bad_filter,
+    "Unknown": lambda name, value, before: name not in NAMES,
+    "RepeatedParameter": lambda name, value, before: name in _ONCE and name in before,
+    "BadStamp": lambda name, value, before: name in ("from", "to") and not _STAMP.fullmatch(value),
+    "BadFilter": lambda name, value, before: _is_bad_filter(name, value),
 }
