@@ -64,12 +64,12 @@ class Archive:
     def list(self) -> Iterator[Listed]:
         """Yields each record."""
         for found in self._lines("list", _LISTED):
-            yield Listed(int(found[1]), int(found[2]), found[3])
+            yield Listed(int(found[0]), int(found[1]), found[2])
 
     def verify(self) -> Iterator[Verified]:
         """Yields each record, with the verdict on the digest of its block."""
         for found in self._lines("verify", _VERIFIED):
-            yield Verified(int(found[1]), found[2])
+            yield Verified(int(found[0]), found[1])
 
     def index(self, output: IO[bytes], *, name: Optional[str] = None, types: Optional[str] = None) -> None:
         """Writes an index of the captures. `types` are those of `--types` of the program.
@@ -235,11 +235,11 @@ class Archive:
             raise cannot_open(self.path, getattr(error, "errno", None)) from error
 
     def _lines(self, command: str, pattern: "re.Pattern[bytes]") -> Iterator[tuple[str, ...]]:
-        """Yields each line of a report with its groups."""
+        """Yields the groups of each line of a report."""
         with running(self._program, command, self.path, good=(0, FAULTY)) as output:
             for line in output:
                 if found := pattern.fullmatch(line):
-                    yield found[0].decode(), *(group.decode() for group in found.groups())
+                    yield tuple(group.decode() for group in found.groups())
                 else:
                     self._expect_end(command, line)
 

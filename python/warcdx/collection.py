@@ -126,11 +126,8 @@ class Collection:
             if name not in self._archives:
                 raise NoArchive(name)
             return self._archives[name]
-        path = _path_of(name)
-        if path is None:
-            raise NoArchive(name)
-        found = find_archive(self._archives, name, self._links)
-        if found is None and self._links is not None:
+        path, found = _path_of(name), find_archive(self._archives, name, self._links)
+        if path is None or found is None and self._links is not None:
             raise NoArchive(name)
         return found or os.path.join(self._archives[0], path)
 

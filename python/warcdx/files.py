@@ -5,10 +5,9 @@ import os
 import shutil
 import stat
 from collections.abc import Iterable, Iterator
-from typing import IO, Optional, Union
+from typing import Optional, Union
 
 Path = Union[str, os.PathLike[str]]
-_NEW = os.O_WRONLY | os.O_CREAT | os.O_EXCL | os.O_NOFOLLOW | os.O_CLOEXEC
 
 
 def is_regular(path: Path, size: Optional[int] = None) -> bool:
@@ -20,14 +19,9 @@ def is_regular(path: Path, size: Optional[int] = None) -> bool:
     return stat.S_ISREG(found.st_mode) and size in (None, found.st_size)
 
 
-def new_file(path: Path) -> IO[bytes]:
-    """Opens a file that is made now. Raises FileExistsError if anything has this name, such as a link."""
-    return open(os.open(path, _NEW, 0o666), "wb")
-
-
 def write_new(path: Path, texts: Iterable[str]) -> None:
     """Writes a file that is made now, in ASCII. It is on the disk, or isn't there. Raises OSError."""
-    with new_file(path) as file, _removed_if_failed(path):
+    with open(path, "xb") as file, _removed_if_failed(path):
         file.writelines(text.encode("ascii") for text in texts)
         file.flush()
         os.fsync(file.fileno())
@@ -47,7 +41,7 @@ def move(path: Path, new_path: Path) -> None:
 
 
 def _copy(path: Path, new_path: Path) -> None:
-    with open(path, "rb") as source, new_file(new_path) as file, _removed_if_failed(new_path):
+    with open(path, "rb") as source, open(new_path, "xb") as file, _removed_if_failed(new_path):
         shutil.copyfileobj(source, file)
         file.flush()
         os.fsync(file.fileno())

@@ -8,10 +8,10 @@ import json
 import os
 import re
 from collections.abc import Mapping, Sequence
-from typing import Any, NamedTuple, Optional, Union
+from typing import Any, NamedTuple, Optional
 
 from .faults import cannot_open
-from .files import is_regular, remove, write_new, write_to_disk
+from .files import Path, is_regular, remove, write_new, write_to_disk
 
 CURRENT = "current"  # leads to the folder of the state that is the index now
 FOLDERS = RUNS, STATES = "runs", "states"
@@ -21,8 +21,6 @@ MOST_RUNS = 40  # of an index
 _EMPTY = "000000.cdxj"  # the run of a state without captures
 _LINK = re.compile(f"{STATES}/([0-9]{{1,18}})")
 _TRIES = 3  # while states are replaced
-
-Path = Union[str, os.PathLike[str]]
 
 
 class Listed(NamedTuple):
