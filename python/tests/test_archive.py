@@ -51,6 +51,8 @@ class Archives(Case):
 
     def test_get_returns_the_record(self) -> None:
         archive = Archive(SAMPLES / "wget.warc", program=PROGRAM)
+        self.assertEqual(f"Archive('{SAMPLES}/wget.warc')", repr(archive))
+        archive.close()
         record = archive.get(11387)
         self.assertEqual(("response", "http://127.0.0.1:8000/odd/gone"), (record.kind, str(record.field("warc-target-uri")).strip("<>")))
         self.assertEqual(b"gone\n", payload(record))

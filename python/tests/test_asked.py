@@ -175,6 +175,10 @@ class Parameters(Case):
                 ("size is a number, and not 'x'", lambda: Limits("x")),  # type: ignore[arg-type]
                 ("seconds is a number, and not '5'", lambda: Index(index, program=PROGRAM, seconds="5")),  # type: ignore[arg-type]
                 ("offset is a number, and not 5.0", lambda: open_archive(index, program=PROGRAM).record(5.0)),  # type: ignore[arg-type]
+                (
+                    "types is a text, such as response,metadata, and not ['response']",
+                    lambda: open_archive(index, program=PROGRAM).index(io.BytesIO(), types=["response"]),  # type: ignore[arg-type]
+                ),
                 ("the output is a file that is open to write bytes, and not 'a'", lambda: merge(index, "a", program=PROGRAM)),  # type: ignore[arg-type]
                 ("an Index isn't copied, or sent to another process; open another one there", lambda: copy.copy(other)),
             ):  # fmt: skip

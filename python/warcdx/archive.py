@@ -7,7 +7,7 @@ import stat
 from collections.abc import Iterator
 from typing import IO, NamedTuple, Optional, TypeVar
 
-from .errors import Fault, ProgramError, number_of
+from .errors import Fault, ProgramError, expect_type, number_of
 from .faults import NoRecord, Read, cannot_open
 from .program import Path, find_packed_program, find_program, memory_file, operand, running, started, write_output
 from .record import CLOSING, Record, RecordStream, Unreadable
@@ -54,7 +54,7 @@ class Archive:
     `warcdx.faults` that is named as the program names the cause, after all records before the damage.
 
     Records of the usual form, of up to 64 MB, are read by this process. All others are asked of the program, which
-    alone decides what is at fault. An archive is opened for each call, so `with` closes nothing.
+    alone decides what is at fault. An archive is opened for each call, so `with` and `close` close nothing.
     """
 
     def __init__(self, path: Path, *, program: str = "warcdx") -> None:
@@ -77,6 +77,7 @@ class Archive:
         The archive's file name in it is the part of its path behind the last `/`, or else of `name`. If the archive
         is at fault, the captures before the fault are written first.
         """
+        expect_type("types", types, (str, type(None)), "a text, such as response,metadata")
         command = (self._program, "index", *(() if types is None else ("--types", types)))
         if name is None:
             write_output(output, *command, self.path)
@@ -194,11 +195,17 @@ class Archive:
         with ArchiveFile(self.path) as file:
             yield file, self._is_packed(file)
 
+    def close(self) -> None:
+        """Does nothing: no file is open between two calls."""
+
     def __enter__(self: "_Archive") -> "_Archive":
         return self
 
     def __exit__(self, *error: object) -> None:
-        pass
+        self.close()
+
+    def __repr__(self) -> str:
+        return f"{type(self).__name__}({self.path!r})"
 
     def _text_at(self, offset: int, length: Optional[int], most: int) -> Optional[bytes]:
         """Returns the text of the record at an offset, or None if the program has to find it, or for a longer one.
