@@ -105,8 +105,8 @@ class Update:
 
     def plan(self, removal: Removal) -> tuple[Plan, Found]:
         """Returns what is to be done. Raises OSError if the folder of archives can't be read."""
-        own = () if self._single is None else self._single.own
-        found = find_archives(self._settings.folder, self._settings.recursive, self._store.folder, own)
+        single = None if self._single is None else self._single.path
+        found = find_archives(self._settings.folder, self._settings.recursive, self._store.folder, single)
         whole = {run.number for run in self._store.runs() if self._store.is_whole(run)}
         had = self._store.archives()
         self._archives = {name: archive for name, archive in had.items() if archive.run is None or archive.run in whole}

@@ -3,7 +3,6 @@ import itertools
 import os
 import re
 from collections import Counter
-from collections.abc import Collection
 from typing import Any, NamedTuple, Optional
 
 from .streams import is_text
@@ -97,10 +96,10 @@ class Found(NamedTuple):
         return None
 
 
-def find_archives(folder: str, recursive: bool, store: str, own: Collection[str] = ()) -> Found:
+def find_archives(folder: str, recursive: bool, store: str, single: Optional[str] = None) -> Found:
     """Returns the archives in a folder, and with `recursive` those in the folders below it, without following links to folders.
 
-    The folder `store` isn't entered. The files `own`, given by their real paths, are the command's, and don't count as passed over.
+    The folder `store` isn't entered. The file `single`, given by its real path, is the command's, and doesn't count as passed over.
     Raises OSError if the folder itself can't be read to its end.
     """
     found, root, own_folder = Found([], {}, Passed()), os.path.realpath(folder), _stat_of(store)
@@ -129,7 +128,7 @@ def find_archives(folder: str, recursive: bool, store: str, own: Collection[str]
                 found.passed.below += is_archive
             elif is_archive:
                 found.archives.append(FoundArchive(name, _state_of(entry)))
-            elif entry.path not in own:
+            elif entry.path != single:
                 found.passed.add(entry.name)
     found.passed.is_whole = left > 0
     found.archives.sort()

@@ -21,11 +21,6 @@ class Single:
         self.path = os.path.realpath(path)
         self._store = store
 
-    @property
-    def own(self) -> tuple[str, ...]:
-        """The files of the command beside the store."""
-        return (self.path,)
-
     def begin(self) -> None:
         """Removes what an ended run of the command has left. Raises as `expect` does."""
         self.expect()
