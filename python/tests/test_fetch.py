@@ -10,6 +10,7 @@ import subprocess
 import sys
 import unittest
 import unittest.mock
+from collections import Counter
 from collections.abc import Callable
 from typing import Optional
 
@@ -316,8 +317,22 @@ class Names(unittest.TestCase):
             self.assertEqual(f"20160919172024-{wanted}", found, url)
 
     def test_a_name_that_is_used_gets_a_number(self) -> None:
-        names: set[str] = set()
-        self.assertEqual(["a.txt", "A-2.txt", "a-3.txt"], [fetch_command.unused(name, names) for name in ("a.txt", "A.txt", "a.txt")])
+        names = _Asked()
+        wanted = ["a.txt", "A-2.txt", "a-3.txt", "a-2-2.txt", "a-4.txt"]
+        self.assertEqual(wanted, [fetch_command.unused(name, names) for name in ("a.txt", "A.txt", "a.txt", "a-2.txt", "a.txt")])
+        for _ in range(1000):
+            fetch_command.unused("a.txt", names)
+        self.assertLess(names.questions, 3000)  # and not as many as there are pairs of names
+
+
+class _Asked(Counter[str]):
+    """Names that count how often it is asked whether they have one."""
+
+    questions = 0
+
+    def __contains__(self, name: object) -> bool:
+        self.questions += 1
+        return super().__contains__(name)
 
 
 if __name__ == "__main__":

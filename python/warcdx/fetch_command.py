@@ -42,6 +42,7 @@ import os
 import re
 import urllib.parse
 import zlib
+from collections import Counter
 from collections.abc import Iterable, Iterator, Sequence
 from typing import IO, BinaryIO, Optional
 
@@ -160,7 +161,7 @@ def contents_of(collection: Collection, capture: Capture, is_record: bool) -> It
 
 def write_files(given: argparse.Namespace, collection: Collection, captures: Iterable[Capture], output: BinaryIO) -> int:
     """Writes each capture into a file of the new folder, and returns the exit status."""
-    status, names = 0, set[str]()
+    status, names = 0, Counter[str]()
     for capture in captures:
         name = unused(name_of(capture, given.record), names)
         try:
@@ -243,14 +244,14 @@ def name_of(capture: Capture, is_record: bool) -> str:
     return f"{capture.timestamp}-{front}{ending}"
 
 
-def unused(name: str, names: set[str]) -> str:
-    """Returns a name that isn't among the names, with a number if it has to be another one, and adds it."""
+def unused(name: str, names: Counter[str]) -> str:
+    """Returns a name that isn't among the names, with a number if it has to be another one, and adds it. Each has the last number after it."""
     front, ending = os.path.splitext(name)
-    found, number = name, 1
+    found = name
     while found.lower() in names:
-        number += 1
-        found = f"{front}-{number}{ending}"
-    names.add(found.lower())
+        names[name.lower()] += 1
+        found = f"{front}-{names[name.lower()]}{ending}"
+    names[found.lower()] = 1
     return found
 
 
