@@ -12,7 +12,7 @@ import unittest
 from types import FrameType
 from typing import Any
 
-from warcdx import Index, ProgramEnded, ProgramMissing, ProgramTooOld, ReplyTooLate
+from warcdx import Index, ProgramEnded, ProgramError, ProgramMissing, ProgramTooOld, ReplyTooLate
 from warcdx.query import Query
 
 from .support import ALL, PROGRAM, SAMPLES, WAIT, Case, children_of, is_running, lines, processes_of, resource
@@ -210,6 +210,11 @@ class Programs(Case):
             text = f'[ "$1" = serve ] || exec "{PROGRAM}" "$@"\n{closed}'
             index = self.open(self.put(lines(3)), program=self.script(text))
             self.assertEqual(7, self.raises(ProgramEnded, index.count, ALL).status)
+
+    def test_a_reply_that_is_none_is_an_error_of_the_program(self) -> None:
+        text = f'[ "$1" = serve ] || exec "{PROGRAM}" "$@"\nread query; printf "nothing\\n.\\n"; cat'
+        index = self.open(self.put(lines(3)), program=self.script(text))
+        self.assertIn("has replied b'nothing'", str(self.raises(ProgramError, index.count, ALL)))
 
     def test_what_an_ended_program_has_said_is_kept(self) -> None:
         text = f'[ "$1" = serve ] || exec "{PROGRAM}" "$@"\nhead -c 200000 /dev/zero | tr "\\0" x >&2; exit 4'

@@ -9,7 +9,7 @@ import subprocess
 import time
 import weakref
 from collections.abc import Callable, Generator, Iterator
-from typing import IO, NamedTuple, NoReturn, Optional
+from typing import IO, NamedTuple, Optional
 
 from .errors import NO_STATUS, Error, Fault, ProgramEnded, ProgramError, Refused, ReplyTooLate, ReplyTooLong
 from .program import Process, close, end_of, memory_file, start
@@ -272,7 +272,7 @@ def rows_of(reply: bytes, indexes: tuple[str, ...]) -> list[list[str]]:
             raise found
     last = last_lines(reply)[1]
     if not last.startswith(b"["):
-        raise_fault(last, indexes)
+        raise fault_in(last, indexes) or ProgramError(f"warcdx serve has replied {last!r:.100}")
     rows: list[list[str]] = json.loads(reply)
     return rows
 
@@ -281,8 +281,8 @@ def text_of(reply: bytes, is_json: bool, indexes: tuple[str, ...]) -> bytes:
     """Returns a page as the program writes it. Whether it is JSON decides what a fault follows."""
     before, last = last_lines(reply)
     is_after = bool(before) if is_json else before in (b"\n", b"\n\n")
-    if is_after and _FAULT.fullmatch(last):
-        raise_fault(last, indexes)
+    if is_after and (found := fault_in(last, indexes)):
+        raise found
     return reply
 
 
@@ -301,9 +301,6 @@ def last_lines(reply: bytes) -> tuple[bytes, bytes]:
     return reply[max(start - 2, 0) : start], reply[start:-1]
 
 
-def raise_fault(line: bytes, indexes: tuple[str, ...]) -> NoReturn:
+def fault_in(line: bytes, indexes: tuple[str, ...]) -> Optional[Fault]:
     found = _FAULT.fullmatch(line)
-    if not found:
-        raise ValueError(f"warcdx serve has replied {line!r:.100}")
-    number = int(found[2])
-    raise fault(found[1].decode(), indexes[number], int(found[3]), number)
+    return fault(found[1].decode(), indexes[int(found[2])], int(found[3]), int(found[2])) if found else None
