@@ -22,7 +22,7 @@ from warcdx.states import MOST_RUNS
 from warcdx.update_archives import Found, FoundArchive, Passed
 from warcdx.update import Merging, batches_of
 from warcdx.update_reports import damage_of
-from warcdx.update_tasks import Failed, _causes_of, _Lines, _text_of, _whole_lines, add_hosts, index_archives, merge_runs
+from warcdx.update_tasks import Failed, _causes_of, _Lines, _whole_lines, add_hosts, index_archives, merge_runs
 from warcdx.update_workers import Threads
 
 from .support import PROGRAM, SAMPLES
@@ -244,9 +244,10 @@ class TaskTest(unittest.TestCase):
 
     def test_what_the_program_says(self) -> None:
         def causes(said: str, *names: str) -> Iterator[str]:
-            yield from _causes_of(_text_of(io.BytesIO(said.encode())), names).values()
+            yield from _causes_of(io.BytesIO(said.encode()), names).values()
 
         self.assertEqual([*causes("warcdx: ./a: b\nc.warc: fault 448 ShortBlock\n", "a: b\nc.warc")], ["fault 448 ShortBlock"])
+        self.assertEqual([*causes("warcdx: ./a\n  c.warc: fault 448 ShortBlock\n  Its text.\n", "a\n  c.warc")], ["fault 448 ShortBlock"])
         self.assertEqual([*causes("warcdx-gz: ./b.gz: fault 0 BadMember\n  Its text.\n", "a.gz", "b.gz")], ["", "fault 0 BadMember"])
         self.assertEqual([*causes("warcdx: ./a.warc: cannot open\n  No such file\n", "a.warc")], ["cannot open"])
         self.assertEqual([*causes("warcdx: Memory\n", "a.warc")], [""])
