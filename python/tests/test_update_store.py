@@ -243,6 +243,13 @@ class StoreTest(unittest.TestCase):
                     self.store.publish([], [], {})
                 self.assertEqual(sorted(other.iterdir()), sorted(left))
 
+    def test_a_file_that_has_the_name_of_a_state_is_left(self) -> None:
+        with self.store.locked(self.settings):
+            for number in range(3):
+                self.store.publish([], [], {"gone": number})
+            (self.folder / "states/0").write_text("mine")
+        self.assertEqual("mine", (self.folder / "states/0").read_text())
+
     def test_a_state_that_was_changed_is_made_anew(self) -> None:
         with self.store.locked(self.settings):
             self.add("a.warc", range(3))

@@ -130,12 +130,12 @@ def _has_link(state: str, name: str) -> bool:
 
 def remove_before(folder: str, number: int) -> None:
     """Removes the folders of the states before this one. What others have in one stays."""
-    for name in os.listdir(f"{folder}/{STATES}"):
-        state = f"{folder}/{STATES}/{name}"
-        if not _LINK.fullmatch(f"{STATES}/{name}") or int(name) >= number or os.path.islink(state):
+    for state in list(os.scandir(f"{folder}/{STATES}")):
+        is_number = _LINK.fullmatch(f"{STATES}/{state.name}") is not None
+        if not is_number or int(state.name) >= number or not state.is_dir(follow_symlinks=False):
             continue
         for entry in os.scandir(state):
-            if entry.name.endswith(".cdxj") and _has_link(state, entry.name):
+            if entry.name.endswith(".cdxj") and _has_link(state.path, entry.name):
                 os.remove(entry)
             elif entry.name in (MANIFEST, SUMMARY) or entry.name == _EMPTY and is_regular(entry.path, 0):
                 remove(entry.path)
