@@ -216,6 +216,7 @@ class Patterns(Case):
             "(?P<a>(?P>a)|x)*",
             "a{²}",
             "a{1²}",
+            ".\\G{e<=3}\\G",
         ):
             found = server.ask(f"/cdx?url=example.com&filter=original:{pattern.replace(' ', '%20').replace('²', '%C2%B2')}")
             self.assertEqual(400, found.status, pattern)

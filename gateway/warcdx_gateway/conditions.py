@@ -83,6 +83,8 @@ class Conditions:
         except TimeoutError:
             self._work.go_on()
             raise too_slow(condition) from None
+        except RuntimeError as error:  # of what `regex` compiles and can't match
+            raise bad_pattern(text, f"the regular expression can't be read: {error}") from error
 
 
 def compiled(text: str) -> "regex.Pattern[str]":
