@@ -27,13 +27,6 @@ class Identity(NamedTuple):
     def of(cls, found: os.stat_result) -> "Identity":
         return cls(found.st_dev, found.st_ino, found.st_size, found.st_mtime_ns, found.st_ctime_ns)
 
-    def has_content_of(self, other: "Identity") -> bool:
-        """Returns whether it is the same file, to which nothing was written as its size and time say.
-
-        The time of the inode isn't compared: it changes when another file takes the name.
-        """
-        return self[:-1] == other[:-1]
-
 
 Stamp = tuple[Identity, ...]
 
@@ -54,11 +47,9 @@ class Generation:
                 self.files.append(os.open(path, os.O_RDONLY | os.O_CLOEXEC | os.O_NONBLOCK))
                 if not stat.S_ISREG(os.fstat(self.files[-1]).st_mode):
                     raise OSError(errno.EINVAL, "not a regular file", str(path))
-            found = stamp_of(map(os.fstat, self.files))
-            self.stamp = found if stamp is None else stamp
-            if not all(map(Identity.has_content_of, found, self.stamp)):
+            self.stamp = stamp_of(map(os.fstat, self.files)) if stamp is None else stamp
+            if not self.is_unchanged:
                 raise OSError(errno.ESTALE, os.strerror(errno.ESTALE))
-            self._contents = [(each.size, each.modified) for each in self.stamp]
         except BaseException:
             self.close()
             raise
@@ -73,8 +64,11 @@ class Generation:
 
     @property
     def is_unchanged(self) -> bool:
-        """Whether nothing was written to the files, as `Identity.has_content_of` says."""
-        return [(found.st_size, found.st_mtime_ns) for found in map(os.fstat, self.files)] == self._contents
+        """Whether they are the same files, to which nothing was written as their sizes and times say.
+
+        The times of the inodes aren't compared: they change when other files take the names.
+        """
+        return [each[:-1] for each in stamp_of(map(os.fstat, self.files))] == [each[:-1] for each in self.stamp]
 
     def close(self) -> None:
         for file in self.files:
