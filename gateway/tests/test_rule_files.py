@@ -172,6 +172,18 @@ class Files(Case):
         found = client.get("/cdx?url=example.com")
         self.assertEqual((200, ""), (found.status_code, found.text))
 
+    def test_a_collection_that_is_not_listed_is_not_named(self) -> None:
+        index = (self.put(SAMPLE),)
+        each = CollectionSettings("open", "Open", index), CollectionSettings("private", "Private", index, listed=False)
+        gateway = gateway_of(self, Settings(each, "open", program=PROGRAM))
+        for collection in gateway.collections.values():
+            collection.is_old = True
+        old = "the old indexes are in use\n"
+        self.assertEqual(f"ok\nopen: {old}a collection: {old}", Client(gateway).get("/health").text)
+        gateway.collections["private"].is_usable = False
+        found = Client(gateway).get("/health")
+        self.assertEqual((503, "a collection: "), (found.status_code, found.text.partition("refused")[0]))
+
     def test_a_tag_does_not_tell_what_the_rules_are(self) -> None:
         """Whoever guesses them could else find out whether that is so."""
         rules, tags = rules_of(self.text('[[rules]]\naction = "exclude"\nembargo = 10\n'), "crawl"), []

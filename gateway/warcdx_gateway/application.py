@@ -284,18 +284,19 @@ def rule(path: str, handler: Handler, methods: Iterable[str] = METHODS) -> Rule:
 
 
 def health(gateway: Gateway, request: GatewayRequest) -> Response:
-    """Asks each collection for a capture that no index has, and names those whose indexes are old."""
+    """Asks each collection for a capture that no index has, and names those whose indexes are old, if they are listed."""
     said = ["ok\n"]
     for collection in gateway.collections.values():
+        name = collection.name if collection.settings.listed else "a collection"
         try:
             index = collection.index
             index.seconds = HEALTH_SECONDS
             index.text("key=!&limit=1&fl=offset")
             collection.expect_unchanged()
         except (Error, OSError, Refusal) as error:
-            return Response(f"{collection.name}: {error}\n", 503, content_type=TEXT)
+            return Response(f"{name}: {error}\n", 503, content_type=TEXT)
         if collection.is_old:
-            said.append(f"{collection.name}: the old indexes are in use\n")
+            said.append(f"{name}: the old indexes are in use\n")
     return Response("".join(said), content_type=TEXT)
 
 
