@@ -14,8 +14,6 @@ from .refusal import say, text_of
 from .shared import Metrics
 from .work import MOST_FREE, Work
 
-Headers = list[tuple[str, str]]
-
 
 @dataclass(eq=False)
 class Sent:
@@ -62,7 +60,7 @@ class Sent:
             found.setsockopt(socket.SOL_SOCKET, socket.SO_LINGER, struct.pack("ii", 1, 0))
 
 
-def streamed(pieces: Generator[bytes, None, None], headers: Headers, work: Work) -> Response:
+def streamed(pieces: Generator[bytes, None, None], headers: list[tuple[str, str]], work: Work) -> Response:
     """Returns an answer whose pieces are made when they are sent.
 
     The first ones are made at once. So what fails until then has a status, and a short answer has
