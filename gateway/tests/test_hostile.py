@@ -161,6 +161,8 @@ class Isolated(Case):
                 self.assertEqual(b"300\n", server.ask("/cdx?url=example.com/a&fl=length", If_None_Match=blanks, Accept=blanks).body)
                 found = server.ask("/__wb/sparkline?url=example.com/a" + "&a=1" * 16_000)
                 self.assertEqual((400, "refused TooMany: a query has at most 1000 parameters\n"), (found.status, found.text))
+        captured = "/web/timegate/http://example.com/nosuch?a" + "&a=1" * 5000  # which may have more
+        self.assertEqual(404, server.ask(captured).status)
 
     def test_revisits_of_one_key(self) -> None:
         """The originals of a key are read once."""

@@ -41,7 +41,7 @@ WAYBACK_PATHS = ("/cdx", "/cdx/search", "/cdx/search/cdx", "/cdx/search/xd", "/w
 MAIN_PATHS = ("/cdx", "/web/", "/wayback/", "/__wb/")  # the fronts of all paths of the main collection
 MODULES = ("memento", "clients", "browse")  # each has `rules()`
 MOST_BODY = 1 << 17  # bytes of a request
-MOST_PARAMETERS = 1000  # of a query in a path
+MOST_PARAMETERS = 1000  # of a query that isn't that of a captured URL
 TOO_LONG = RequestEntityTooLarge(f"a body has at most {MOST_BODY} bytes")
 MOST_PATHS = 64  # whose rules are remembered
 HEALTH_SECONDS = 5
@@ -194,12 +194,12 @@ class Gateway:
             if client is not None and client.is_for_metrics:
                 return "", show_metrics(self) if path == "/metrics" else http_response(NotFound())
             self._check_host(request)
-            if request.query_string.count(b"&") > MOST_PARAMETERS:
-                raise Refusal("TooMany", "", f"a query has at most {MOST_PARAMETERS} parameters")
             self.look()
             if method == "OPTIONS" and self.settings.origins:
                 return self.settings.main, preflight(self._paths.allowed_methods(path))
             found, values = self._rule_of(path, method)
+            if request.query_string.count(b"&") > MOST_PARAMETERS and not found.rule.endswith("<path:url>"):
+                raise Refusal("TooMany", "", f"a query has at most {MOST_PARAMETERS} parameters")
             name = values.get("collection", self.settings.main if found.rule.startswith(MAIN_PATHS) else "")
             name = name if name in self.collections else ""
             is_listed = not name or self.collections[name].settings.listed

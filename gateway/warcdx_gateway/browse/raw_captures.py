@@ -178,7 +178,7 @@ def conditional(response: Response, request: Request, size: Optional[int]) -> Re
     if response.status_code != 200:
         return response
     tag = response.headers["ETag"]
-    # A tag that is weak, as nginx has made it of compressed bytes, is no match for a part.
+    # One that is weak, as nginx has made it of compressed bytes, isn't that of a part.
     if not has_tag(request.headers.get("If-Match", "*").replace(f"W/{tag}", ""), tag):
         response.close()
         return Response("The payload isn't the one that the request names.\n", 412)
