@@ -33,10 +33,11 @@ class Http(Shared):
             self.assertEqual("close", found.fields["connection"])
 
     def test_http_1_0_is_answered(self) -> None:
-        with connected(self.server) as client:
-            client.send(b"GET /cdx?url=example.com/a&fl=length HTTP/1.0\r\n\r\n")
-            self.assertEqual((200, b"300\n"), client.response()[::2])
-            self.assertEqual(b"", client.input.read())
+        for fields in (b"", b"Expect: 100-continue\r\n"):
+            with connected(self.server) as client:
+                client.send(b"GET /cdx?url=example.com/a&fl=length HTTP/1.0\r\n%s\r\n" % fields)
+                self.assertEqual((200, b"300\n"), client.response()[::2])
+                self.assertEqual(b"", client.input.read())
 
     def test_a_field_of_a_client_does_not_change_its_path(self) -> None:
         for value in ("/x", "/cdx", ""):

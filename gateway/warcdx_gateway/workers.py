@@ -200,9 +200,12 @@ class Worker(gunicorn.workers.sync.SyncWorker):
             self.is_reading = False
 
     def handle_request(self, listener: Any, req: Any, client: Connection, addr: Any) -> None:
-        """Answers a request. gunicorn would take `_` in the name of a field for `-`, and SCRIPT_NAME for its own."""
+        """Answers a request. gunicorn would take `_` in the name of a field for `-`, and SCRIPT_NAME for its own.
+
+        It would also tell a client of HTTP/1.0 to go on, which takes that for the answer (RFC 9110, 10.1.1).
+        """
         self.is_reading = False
-        req.headers = [each for each in req.headers if "_" not in each[0]]
+        req.headers = [each for each in req.headers if "_" not in each[0] and (req.version > (1, 0) or each[0] != "EXPECT")]
         expect_plain(req)
         forwarded = [value for name, value in req.headers if name == "X-FORWARDED-FOR"]
         address = address_of(str(addr[0]) if addr else "", "".join(forwarded[-1:]))
