@@ -111,10 +111,10 @@ class Parameters(Case):
         for wanted, call in (
             ("url is a text, and not b'a'", lambda: index.captures(b"a")),  # type: ignore[arg-type]
             ("query is a text, and not {}", lambda: index.captures(query={})),  # type: ignore[arg-type]
-            ("limit is a number, and not 2.0", lambda: index.captures(limit=2.0)),  # type: ignore[arg-type]
+            ("limit is a whole number, and not 2.0", lambda: index.captures(limit=2.0)),  # type: ignore[arg-type]
             ("fields is a text, or a list of texts, and not 5", lambda: index.columns(5)),  # type: ignore[arg-type]
             ("a field is a text, and not 5", lambda: index.columns([5])),  # type: ignore[list-item]
-            ("page_size is a number, and not 'x'", lambda: list(index.captures(page_size="x"))),  # type: ignore[arg-type]
+            ("page_size is a whole number, and not 'x'", lambda: list(index.captures(page_size="x"))),  # type: ignore[arg-type]
             ("query is a text, and not None", lambda: index.text(None)),  # type: ignore[arg-type]
             ("query is a text, and not b'key='", lambda: list(index.stream(b"key="))),  # type: ignore[arg-type]
             ("filter has to be a text, or a list of texts, and not None", lambda: index.captures(filter=[None])),  # type: ignore[list-item]
@@ -172,9 +172,9 @@ class Parameters(Case):
                 ("a record is a Record, or its bytes, and not 'x'", lambda: payload("x")),  # type: ignore[arg-type]
                 ("the name of a field is a text, and not b'a'", lambda: Record((), b"").field(b"a")),  # type: ignore[arg-type]
                 ("limits is a Limits, such as Limits(size=10_000_000), and not 5", lambda: Record((), b"").payload(5)),  # type: ignore[arg-type]
-                ("size is a number, and not 'x'", lambda: Limits("x")),  # type: ignore[arg-type]
+                ("size is a whole number, and not 'x'", lambda: Limits("x")),  # type: ignore[arg-type]
                 ("seconds is a number, and not '5'", lambda: Index(index, program=PROGRAM, seconds="5")),  # type: ignore[arg-type]
-                ("offset is a number, and not 5.0", lambda: open_archive(index, program=PROGRAM).record(5.0)),  # type: ignore[arg-type]
+                ("offset is a whole number, and not 5.0", lambda: open_archive(index, program=PROGRAM).record(5.0)),  # type: ignore[arg-type]
                 (
                     "types is a text, such as response,metadata, and not ['response']",
                     lambda: open_archive(index, program=PROGRAM).index(io.BytesIO(), types=["response"]),  # type: ignore[arg-type]

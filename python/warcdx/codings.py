@@ -41,7 +41,7 @@ class Limits:
     seconds: Optional[float] = None
 
     def __post_init__(self) -> None:
-        expect_type("size", self.size, (int, type(None)), "a number")
+        expect_type("size", self.size, (int, type(None)), "a whole number")
         expect_type("seconds", self.seconds, (int, float, type(None)), "a number")
 
 

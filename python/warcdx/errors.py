@@ -72,7 +72,7 @@ def number_of(name: str, value: SupportsIndex) -> int:
     try:
         return operator.index(value)
     except TypeError:
-        raise TypeError(f"{name} is a number, and not {value!r:.60}") from None
+        raise TypeError(f"{name} is a whole number, and not {value!r:.60}") from None
 
 
 class Refused(Error):
