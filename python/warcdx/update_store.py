@@ -361,5 +361,5 @@ def _errors_of(path: str) -> Iterator[None]:
             if words in said:
                 raise OSError(number, os.strerror(number), path) from None
         raise CannotUpdate(f"{path}: {said}") from None
-    except OverflowError:
+    except (OverflowError, UnicodeDecodeError):  # such as of an error that has a part of a damaged text
         raise _changed_by_others(path) from None
