@@ -243,6 +243,12 @@ class StoreTest(unittest.TestCase):
                     self.store.publish([], [], {})
                 self.assertEqual(sorted(other.iterdir()), sorted(left))
 
+    def test_a_first_run_that_fails_after_its_state_keeps_the_folders(self) -> None:
+        with self.assertRaises(OSError), self.store.locked(self.settings):
+            self.store.publish([], [], {})
+            raise OSError("as of standard output")
+        self.assertEqual(["current", "runs", "state.db", "states"], sorted(os.listdir(self.folder)))
+
     def test_a_file_that_has_the_name_of_a_state_is_left(self) -> None:
         with self.store.locked(self.settings):
             for number in range(3):

@@ -14,7 +14,7 @@ from .faults import cannot_open
 from .files import Path, is_regular, remove, write_new, write_to_disk
 
 CURRENT = "current"  # leads to the folder of the state that is the index now
-FOLDERS = RUNS, STATES = "runs", "states"
+FOLDERS = STATES, RUNS = "states", "runs"
 MANIFEST, SUMMARY = "manifest.json", "summary.json"
 FORM = 1  # of a manifest
 MOST_RUNS = 40  # of an index
