@@ -296,7 +296,7 @@ class ThreadsTest(unittest.TestCase):
 
         self.addCleanup(signal.signal, signal.SIGTERM, signal.getsignal(signal.SIGTERM))
         start = threading.Thread.start
-        for before, after in ((0.1, 0.0), (0.0, 0.0), (0.0, 0.1)):
+        for before, after, later in ((0.1, 0.0, 0.0), (0.0, 0.0, 0.0), (0.0, 0.1, 0.0), (0.0, 0.1, 0.1)):
             done = list[str]()
 
             def task(start: object) -> None:
@@ -315,6 +315,7 @@ class ThreadsTest(unittest.TestCase):
                 start(thread)
                 time.sleep(after)
                 os.kill(os.getpid(), signal.SIGTERM)
+                time.sleep(later)  # the thread has taken the signal, and the executor doesn't know of it yet
 
             with mock.patch.object(threading.Thread, "start", start_and_end), self.assertRaises(Ended):
                 with Threads(2) as workers:
@@ -322,8 +323,8 @@ class ThreadsTest(unittest.TestCase):
                     list(workers.run(task, [(), ()]))
             at_the_end = list(done)
             time.sleep(0.5)
-            self.assertEqual(at_the_end, done, (before, after))
-            self.assertEqual(done.count("begun"), done.count("ended"), (before, after))
+            self.assertEqual(at_the_end, done, (before, after, later))
+            self.assertEqual(done.count("begun"), done.count("ended"), (before, after, later))
 
 
 if __name__ == "__main__":

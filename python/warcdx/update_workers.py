@@ -68,8 +68,14 @@ class Threads(Workers):
         self._running: set[subprocess.Popen[bytes]] = set()
         self._is_ended = False
         self._words = {"start": self._start}
-        self._executor = ThreadPoolExecutor(jobs, "", signal.pthread_sigmask, (signal.SIG_SETMASK, ()))  # which its programs have then
+        self._threads: list[threading.Thread] = []  # that may run tasks
+        self._executor = ThreadPoolExecutor(jobs, "", self._begin)
         self.callback(self._end)
+
+    def _begin(self) -> None:
+        """Begins a thread, whose programs have its mask of signals."""
+        self._threads.append(threading.current_thread())
+        signal.pthread_sigmask(signal.SIG_SETMASK, ())
 
     def _end(self) -> None:
         """Ends the programs that run, refuses others, and waits for the threads."""
@@ -78,6 +84,8 @@ class Threads(Workers):
             for process in self._running:
                 process.kill()
         self._executor.shutdown(cancel_futures=True)
+        for thread in self._threads:  # the executor doesn't know of one that it was starting when another one took a signal
+            thread.join()
 
     def _start(self, command: Sequence[str], **options: Any) -> "subprocess.Popen[bytes]":
         if shutil.which(command[0]) is None:
