@@ -3,8 +3,10 @@ import contextlib
 import os
 import pathlib
 import re
+import shutil
 import socket
 import subprocess
+import tempfile
 import unittest
 from unittest import mock
 
@@ -13,6 +15,7 @@ from .support import COMMAND, PROGRAM, ROOT, SAMPLE, WAIT, Case, Shared, connect
 
 from warcdx_gateway.application import FORM
 from warcdx_gateway.settings import CollectionSettings, Settings, checked
+from warcdx_gateway.shared import Metrics
 
 
 class Http(Shared):
@@ -255,6 +258,21 @@ class Counts(unittest.TestCase):
         self.assertEqual({"200": 1, "404": 1, "418": 1, "421": 1, "5xx": 80, "2xx": 60}, statuses)
 
 
+    def test_a_worker_starts_while_a_cleaner_of_old_files_is_at_work(self) -> None:
+        with tempfile.TemporaryDirectory() as name:
+            folder = pathlib.Path(name, "counts")
+            folder.mkdir()
+            process = os.fork()
+            if not process:
+                with contextlib.suppress(BaseException):
+                    metrics = Metrics(folder)
+                    shutil.rmtree(folder)
+                    metrics.sit()
+                    os._exit(0)
+                os._exit(1)
+            self.assertEqual(0, os.waitpid(process, 0)[1])
+
+
 class Defaults(unittest.TestCase):
     def test_workers_have_room_in_the_memory(self) -> None:
         """Of 4 GB, three quarters are theirs."""
@@ -398,8 +416,6 @@ class Starts(Case):
 class Browsers(Case):
     def test_a_page_of_another_origin_reads_json(self) -> None:
         """By Chromium, if it is installed: a page from a file fetches an answer and shows it."""
-        import shutil
-
         chromium = shutil.which("chromium")
         if chromium is None:
             self.skipTest("Debian's package chromium is missing")

@@ -147,6 +147,7 @@ class Metrics:
             if (taken := self._seats.take_one(number)) is not None:
                 self._seat, self._taken = str(number), taken  # which stays open
                 break
+        self.keep()
         self.bytes.inc(0)  # which opens the files of the seat
 
     def keep(self) -> None:
