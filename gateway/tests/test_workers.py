@@ -2,6 +2,7 @@
 import contextlib
 import os
 import pathlib
+import re
 import shutil
 import signal
 import socket
@@ -90,6 +91,8 @@ class Workers(Case):
         with mock.patch.dict(os.environ, RUNTIME_DIRECTORY=str(runtime)):
             server = self.start()
         (folder,) = runtime.iterdir()
+        maps = [pathlib.Path(f"/proc/{each}/maps") for each in server.workers()]
+        self.wait_for(lambda: all(re.search("/histogram_[0-9]+[.]db", each.read_text()) for each in maps), "workers have no files")
         shutil.rmtree(folder)
         for _ in range(3):
             self.assertEqual(20_000, server.ask(ALL).body.count(b"\n"))

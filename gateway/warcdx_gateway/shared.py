@@ -158,8 +158,9 @@ class Metrics:
                 self._fill()
 
     def _fill(self) -> None:
-        for file in self._files:
-            file.write_bytes(bytes(FILE))
+        for name in self._files:
+            with open(name, "ab") as file:  # of which another process may have a part already
+                os.posix_fallocate(file.fileno(), 0, FILE)
 
     def text(self) -> bytes:
         """Returns all counts in the text format of Prometheus."""
