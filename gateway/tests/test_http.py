@@ -257,7 +257,6 @@ class Counts(unittest.TestCase):
         statuses = {re.findall('status="(...)"', line)[0]: float(line.rpartition(" ")[2]) for line in found}
         self.assertEqual({"200": 1, "404": 1, "418": 1, "421": 1, "5xx": 80, "2xx": 60}, statuses)
 
-
     def test_a_worker_starts_while_a_cleaner_of_old_files_is_at_work(self) -> None:
         with tempfile.TemporaryDirectory() as name:
             folder = pathlib.Path(name, "counts")
