@@ -150,8 +150,9 @@ class Server:
         return sum(float(line.rpartition(" ")[2]) for line in found if line.startswith(f"warcdx_gateway_{name}"))
 
     def workers(self) -> list[int]:
-        """Returns the process IDs of the workers."""
-        return children(self.process.pid)
+        """Returns the process IDs of the workers. The master also has children that run another file: its checks of indexes."""
+        own = file_of(self.process.pid)
+        return [child for child in children(self.process.pid) if file_of(child) == own]
 
     def programs(self) -> list[int]:
         """Returns the process IDs of the runs of the program."""
@@ -189,6 +190,14 @@ def children(process: int) -> list[int]:
     except FileNotFoundError:
         return []
     return list(map(int, found.split()))
+
+
+def file_of(process: int) -> str:
+    """Returns the path of the file that a process runs, or an empty text if it has ended."""
+    try:
+        return os.readlink(f"/proc/{process}/exe")
+    except FileNotFoundError:
+        return ""
 
 
 def resident(process: int) -> int:
