@@ -150,9 +150,13 @@ class Server:
         return sum(float(line.rpartition(" ")[2]) for line in found if line.startswith(f"warcdx_gateway_{name}"))
 
     def workers(self) -> list[int]:
-        """Returns the process IDs of the workers. The master also has children that run another file: its checks of indexes."""
+        """Returns the process IDs of the workers."""
+        return [child for child in children(self.process.pid) if child not in self.checks()]
+
+    def checks(self) -> list[int]:
+        """Returns the process IDs of the checks of indexes, which run another file than the master does."""
         own = file_of(self.process.pid)
-        return [child for child in children(self.process.pid) if file_of(child) == own]
+        return [child for child in children(self.process.pid) if file_of(child) not in ("", own)]
 
     def programs(self) -> list[int]:
         """Returns the process IDs of the runs of the program."""

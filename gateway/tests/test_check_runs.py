@@ -134,11 +134,10 @@ class Runs(Checked):
     def test_a_killed_check_is_no_success(self) -> None:
         self.put(lines(PAGES))
         server = self.start(program=self.noted(HOLD))
-        workers = set(server.workers())
         hold = self.put("", "hold")
         self.replace(disorders()["reversed"])
         self.wait_for(lambda: len(self.checks()) == 2, "no check")
-        (program,) = set(server.workers()) - workers
+        (program,) = server.checks()
         os.kill(program, signal.SIGKILL)
         self.wait_for_failure(server)
         self.assertFalse(pathlib.Path(f"/proc/{program}").exists())
@@ -151,11 +150,11 @@ class Runs(Checked):
         for number in (signal.SIGTERM, signal.SIGINT, signal.SIGKILL):
             (self.folder / "hold").unlink(missing_ok=True)
             server = self.start(program=self.noted(HOLD))
-            begun, workers = len(self.checks()), set(server.workers())
+            begun = len(self.checks())
             self.put("", "hold")
             self.replace(lines(PAGES, size=number))
             self.wait_for(lambda: len(self.checks()) > begun, "no check")
-            (program,) = set(server.workers()) - workers
+            (program,) = server.checks()
             server.process.send_signal(number)
             server.process.wait(WAIT)
             self.wait_for(lambda: not pathlib.Path(f"/proc/{program}").exists(), "a process is left")
