@@ -151,7 +151,8 @@ class Server:
 
     def workers(self) -> list[int]:
         """Returns the process IDs of the workers."""
-        return [child for child in children(self.process.pid) if child not in self.checks()]
+        own = file_of(self.process.pid)
+        return [child for child in children(self.process.pid) if file_of(child) == own]
 
     def checks(self) -> list[int]:
         """Returns the process IDs of the checks of indexes, which run another file than the master does."""
