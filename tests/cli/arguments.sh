@@ -38,7 +38,7 @@ no_offset() { # WORD
 }
 
 no_sizes() { # WORD
-    lines "error: invalid value '$1' for '<SIZES>': sizes are 1 to 1,000 numbers from 1 to 1,000,000, with ',' between" "" \
+    lines "error: invalid value '$1' for '<SIZES>': sizes are 1 to 1,000 numbers from 1 to 1,000,000, with ',' between, and precede the query" "" \
         "For more information, try '--help'."
 }
 
@@ -101,6 +101,21 @@ no_length() { # WORD
         "For more information, try '--help'."
 }
 
+no_long() { # OPTION
+    lines "error: unexpected option '$1'" "" "  tip: '--help' prints the options; a file whose name begins with '-' is written './-name'" "" \
+        "For more information, try '--help'."
+}
+
+misplaced_offset() { # OPTION
+    lines "error: unexpected option '$1'" "" "  tip: an offset is written alone, as in 'get OFFSET FILE'" "" \
+        "For more information, try '--help'."
+}
+
+length_behind() { # LENGTH
+    lines "error: unexpected argument '$1'" "" "  tip: a length precedes the offset, as in 'get --length LENGTH OFFSET FILE'" "" \
+        "For more information, try '--help'."
+}
+
 misplaced_length() { # OPTION
     lines "error: unexpected option '$1'" "" "  tip: '--length LENGTH' stands once, directly after 'get'" "" \
         "For more information, try '--help'."
@@ -126,6 +141,7 @@ no_check=$(refusal "the following required arguments were not provided:"$'\n  <I
 no_serve=$(refusal "the following required arguments were not provided:"$'\n  <INDEX>...' "serve <INDEX>...")
 no_query=$(refusal "the following required arguments were not provided:"$'\n  <QUERY>\n  <INDEX>...' "query <QUERY> <INDEX>...")
 no_index_asked=$(refusal "the following required arguments were not provided:"$'\n  <INDEX>...' "query <QUERY> <INDEX>...")
+unquoted=$(lines "$no_index_asked" "" "  tip: a query stands in single quotes, since & ends a command of a shell")
 no_pages=$(refusal "the following required arguments were not provided:"$'\n  <SIZES>\n  <QUERY>\n  <INDEX>...' "pages <SIZES> <QUERY> <INDEX>...")
 no_query_of_pages=$(refusal "the following required arguments were not provided:"$'\n  <QUERY>\n  <INDEX>...' "pages <SIZES> <QUERY> <INDEX>...")
 no_scan=$(refusal "the following required arguments were not provided:"$'\n  <SIZES>\n  <QUERY>\n  <WARC>...' "scan <SIZES> <QUERY> <WARC>...")
@@ -147,7 +163,8 @@ check "verify alone"                    "" "$no_verify"                    2 ver
 check "index alone"                     "" "$no_index"                     2 index
 check "check alone"                     "" "$no_check"                     2 check
 check "query alone"                     "" "$no_query"                     2 query
-check "query without an index"          "" "$no_index_asked"               2 query url=a
+check "query without an index"          "" "$unquoted"                     2 query url=a
+check "query of a name without an index" "" "$no_index_asked"              2 query sorted.cdxj
 check "query -x"                        "" "$(unexpected -x)"              2 query -x sorted.cdxj
 check "serve alone"                     "" "$no_serve"                     2 serve
 check "serve -x"                        "" "$(unexpected -x)"              2 serve -x
@@ -176,6 +193,9 @@ check "--output"                        "" "$(to_file --output)"           2 ind
 check "--jobs"                          "" "$(of_update --jobs)"           2 index --jobs 4 m.warc
 check "-r"                              "" "$(of_update -r)"               2 index -r folder
 check "--limit"                         "" "$(of_query --limit)"           2 query --limit 5 url=a a.cdxj
+check "-n"                              "" "$(of_query -n)"                2 query -n 5 url=a a.cdxj
+check "--quiet"                         "" "$(no_long --quiet)"            2 list --quiet m.warc
+check "--offset"                        "" "$(misplaced_offset --offset)"  2 get --offset 0 m.warc
 check "--from"                          "" "$(of_query --from)"            2 query url=a a.cdxj --from 2016
 check "--type"                          "" "$(misplaced --type)"           2 index --type response m.warc
 check "--list"                          "" "$(no_command --list)"          2 --list m.warc
@@ -214,6 +234,7 @@ check "--name, then bad types"          "" "$(no_types all)"               2 ind
 check "get alone"                       "" "$no_get"                       2 get
 check "get without an archive"          "" "$no_archive"                   2 get 0
 check "get of two archives"             "" "$one_too_many"                 2 get 0 r.warc q.warc
+check "get with a length behind"        "" "$(length_behind 264)"          2 get 0 264 r.warc
 check "get x"                           "" "$(no_offset x)"                2 get x r.warc
 check "get of an empty offset"          "" "$(no_offset "")"               2 get "" r.warc
 check "get +1"                          "" "$(no_offset +1)"               2 get +1 r.warc

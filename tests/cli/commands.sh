@@ -336,7 +336,7 @@ printf 'WARC/0.18\r\n' > old.warc
 printf 'BZh9' > r.bz2
 printf '\3757zXZ\000' > r.xz
 printf '\377\376{\000' > wide
-printf '{"url": "http://a/"}\n' > objects
+printf '{"url": "http://a/"}\n' | tee folder/manifest.json > objects
 printf '!meta {"format": "1"}\n' > headed
 printf 'com,a)/\t20200101000000\t{"url": "http://a/"}\n' > tabbed
 advises "why: no such file"         "No such file or directory (os error 2)"                            3 index missing
@@ -355,6 +355,9 @@ advises "why: a folder"             "It is a folder: warcdx-update indexes the a
 advises "why: a cut archive"        "The archive ends within a record's header."                        1 index torn.warc
 advises "why: a file name twice"    "Another archive has this file name: rename one of them."           1 index r.warc folder/r.warc
 advises "why: no record"            "No record begins at this offset, or it has another length: list prints the offsets." 1 get 1 r.warc
+advises "why: no record of an index" "It seems to be an index: warcdx query reads indexes."              1 get --length 5 1 sorted.cdxj
+advises "why: no record of gzip"    "It is compressed by gzip: warcdx-gz reads .warc.gz files."         1 get --length 5 1 r.warc.gz
+advises "why: no record of any other file" "No record begins at this offset, or it has another length: list prints the offsets." 1 get --length 5 1 forged
 advises "why: a folder as an index" "It is a folder: of an index of warcdx-update, name its current/*.cdxj." 3 check folder
 advises "why: an index of gzip"     "It is compressed by gzip: decompress an index. Of an archive, warcdx-gz index makes one." 1 check sorted.cdxj.gz
 advises "why: an index of zstd"     "It is compressed by zstd: decompress it first."                    1 check r.warc.zst
@@ -365,6 +368,7 @@ for kind in index check; do
     advises "why: $kind of ARC"     "It is an ARC file: convert it to a WARC file first."               1 "$kind" a.arc
 done
 advises "why: objects as an index"  "Its first line is a JSON object alone: in an index, a URL key and a timestamp precede it." 1 check objects
+advises "why: the list of an index" "It is the list of an index of warcdx-update, of which current/*.cdxj are the indexes." 1 check folder/manifest.json
 advises "why: a header of an index" "A line that begins with ! is no capture: grep -v '^!' leaves such lines out." 1 check headed
 advises "why: tabs in an index"     "In an index a space, and no tab, follows the URL key and the timestamp." 1 check tabbed
 advises "why: HTML as an index"     "It seems to be an HTML or XML file, and not an index."             1 check page.html
@@ -394,14 +398,22 @@ advises "why: a condition and a parameter twice" "'limit' is given twice. Only f
     1 query "url=a&is=urlkey:a&limit=1&is=urlkey:a&limit=1" sorted.cdxj
 advises "why: an unknown field"     "'urlkeys' isn't a field. fl is a list, with ',' between, of urlkey, timestamp, original, mimetype, statuscode, digest, \
 length, offset and filename." 1 query "url=a&fl=urlkey,urlkeys" sorted.cdxj
+advises "why: a blank in fl"        "' original' isn't a field. fl is a list, with ',' between, of urlkey, timestamp, original, mimetype, statuscode, digest, \
+length, offset and filename." 1 query "url=a&fl=urlkey, original" sorted.cdxj
 advises "why: no field"             "fl is a list, with ',' between, of urlkey, timestamp, original, mimetype, statuscode, digest, length, offset and filename." \
     1 query "url=a&fl=ur%6cke" sorted.cdxj
-condition="A condition is FIELD:TEXT, such as filter=statuscode:200, with a field that fl may have."
-advises "why: a condition on no field" "'status' isn't a field. $condition"                              1 query "url=a&isnot=urlkey:x&filter=!status:200" sorted.cdxj
+condition="A condition is FIELD:TEXT, such as filter=statuscode:200. The fields are urlkey, timestamp, original, mimetype, statuscode, digest, length, \
+offset and filename."
+advises "why: a condition on no field" "'x' isn't a field. $condition"                                   1 query "url=a&isnot=urlkey:x&filter=!x:200" sorted.cdxj
+for meant in status:statuscode mime:mimetype url:original; do
+    advises "why: a condition on the member ${meant%:*}" "'${meant%:*}' isn't a field, and ${meant#*:} is. $condition" 1 query "url=a&is=${meant%:*}:x" sorted.cdxj
+done
 advises "why: a condition without a colon" "$condition"                                                 1 query "url=a&has=urlkey" sorted.cdxj
 advises "why: a pattern without a file" "Its name is a pattern that no file matches: No such file or directory (os error 2)" 3 list 'missing-*.warc'
 advises "why: a URL as a file" "Its name is a URL, and only files are read: No such file or directory (os error 2)" 3 list http://example.com/a.warc
 advises "why: a query in two arguments" "A query is one argument, with & between its parameters."       3 query url=a fl=urlkey
+advises "why: the last captures"    "limit is a number from 1 to 1000000. warcdx-gateway takes limit=-5 too, for the last five." 1 query "url=a&limit=-5" sorted.cdxj
+advises "why: a date with dashes"   "from and to are 1 to 14 digits without - and :, such as 2016 or 20160919172024." 1 query "url=a&from=2016-09-19" sorted.cdxj
 advises "why: no url"               "A query has a url or a key, such as url=example.com."              1 query "" sorted.cdxj
 
 flush="warcdx: cannot flush"
@@ -473,11 +485,13 @@ cat r.warc r.warc | gzip --no-name > whole.warc.gz
 { cat r.warc.gz && head --bytes=-1 r.warc.gz; } > cut.warc.gz
 divided="The member ends within its record. If the record goes on in the next member, pack the file again: gunzip it, then warcio recompress IN.warc OUT.warc.gz."
 whole="Each record has to be a member of gzip of its own: warcio recompress IN.warc.gz OUT.warc.gz packs the file so."
-advises "why: a page in a member"   "No record begins the member's text: its first line isn't WARC/1.0 or WARC/1.1. Convert an ARC file to a WARC file first." 1 index page.html.gz
+advises "why: a page in a member"   "No record begins the member's text: its first line isn't WARC/1.0 or WARC/1.1. Convert an ARC file to a WARC file first, and decompress an index \
+for warcdx query." 1 index page.html.gz
 advises "why: a record in two members" "$divided"                                                       1 index divided.warc.gz
 advises "why: records in one member" "$whole"                                                           1 index whole.warc.gz
 advises "why: a line behind a member" "No member of gzip begins there: its first bytes aren't 1F 8B."   1 index longer.warc.gz
 advises "why: a cut member"         "The archive ends within a member of gzip: copy it again, or wait until its crawler has closed it." 1 index cut.warc.gz
 advises "why: not an archive of gzip" "No record begins there: its first line isn't WARC/1.0 or WARC/1.1." 1 index forged
+advises "why: no record of a member" "No record begins at this offset, or it has another length: list prints the offsets." 1 get --length 5 0 r.warc.gz
 advises "why: a plain archive that is cut" "The archive ends within a record's header."                 1 index torn.warc
 end_script

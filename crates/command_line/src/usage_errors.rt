@@ -15,7 +15,8 @@ use std::alloc::{AllocError, Global};
 
 const SIZES: &str = "<SIZES>";
 
-const SIZES_RULE: &str = "sizes are 1 to 1,000 numbers from 1 to 1,000,000, with ',' between";
+const SIZES_RULE: &str =
+    "sizes are 1 to 1,000 numbers from 1 to 1,000,000, with ',' between, and precede the query";
 
 const TYPES_RULE: &str =
     "types are response, resource, revisit, conversion and metadata, each once at most, with ',' between";
@@ -37,6 +38,7 @@ pub fn fault_of(alloc: Global, words: &[String], error: &Error) -> WordsFault
         ErrorKind::DisplayHelp => WordsFault::Help(text),
         ErrorKind::InvalidSubcommand => no_command(alloc, words, text),
         ErrorKind::MissingRequiredArgument => no_argument(alloc, words, text),
+        ErrorKind::UnknownArgument => one_too_many(alloc, words, text),
         _ => WordsFault::Usage(text),
     }
 }
@@ -79,6 +81,33 @@ fn no_argument(alloc: Global, words: &[String], text: String) -> WordsFault
     match words {
         [command, query, ..] if takes_sizes(command) && query.contains('=') => invalid(
             alloc, query, SIZES, SIZES_RULE,
+        ),
+        [_command, .., last] if last.contains('=') => unquoted(alloc, &text),
+        _ => WordsFault::Usage(text),
+    }
+}
+
+/// Returns the usage error for a query without a file behind it. `text` is clap's, which doesn't see that a shell has cut the query.
+fn unquoted(alloc: Global, text: &str) -> WordsFault
+    ensures { IsUsage result }
+{
+    usage(format!(in alloc;
+        "{text}\n  \
+         tip: a query stands in single quotes, since & ends a command of a shell\n"
+    ))
+}
+
+/// Returns the usage error for an argument too many. `text` is clap's, which doesn't see that a number behind an offset is a length.
+fn one_too_many(alloc: Global, words: &[String], text: String) -> WordsFault
+    ensures { IsUsage result }
+{
+    match words {
+        [command, _offset, length, _archive]
+            if command == "get" && read_offset(length).is_some() => with_tip(
+            alloc,
+            "unexpected argument",
+            length,
+            "a length precedes the offset, as in 'get --length LENGTH OFFSET FILE'",
         ),
         _ => WordsFault::Usage(text),
     }
@@ -127,6 +156,10 @@ fn tip_for(option: &str) -> &'static str {
         "a command is written without '-', as in 'list FILE'"
     } else if is_negative(option) {
         "an offset, a length and a size are numbers without '-'"
+    } else if option == "--offset" {
+        "an offset is written alone, as in 'get OFFSET FILE'"
+    } else if is_long(option) {
+        "'--help' prints the options; a file whose name begins with '-' is written './-name'"
     } else {
         "a file whose name begins with '-' is written './-name'"
     }
@@ -140,6 +173,7 @@ fn is_of_query(option: &str) -> bool {
             | "--from"
             | "--to"
             | "--limit"
+            | "-n"
             | "--filter"
             | "--fl"
             | "--fields"
@@ -164,6 +198,10 @@ fn is_command(option: &str) -> bool {
             | "--serve"
             | "--scan"
     )
+}
+
+fn is_long(option: &str) -> bool {
+    option.starts_with("--") && option.len() > 2
 }
 
 fn is_negative(option: &str) -> bool {

@@ -24,6 +24,12 @@ const UTF_16: &str = "It is a text in UTF-16: iconv -f UTF-16 -t UTF-8 converts 
 
 const ARC: &str = "It is an ARC file: convert it to a WARC file first.";
 
+const NO_RECORD: &str =
+    "No record begins at this offset, or it has another length: list prints the offsets.";
+
+const MANIFEST: &str =
+    "It is the list of an index of warcdx-update, of which current/*.cdxj are the indexes.";
+
 /// Why an index isn't read from a pipe.
 const NO_PIPE: &str =
     "An index is a file, because it is searched: write what a pipe has to a file first.";
@@ -53,7 +59,8 @@ pub fn missing_advice(name: &str) -> &'static str {
 
 /// Returns `true` if a name has no escape, and no byte that a terminal may take for another line.
 pub fn is_plain(name: &str) -> bool {
-    name.bytes().all(|byte| byte.is_ascii_alphanumeric())
+    name.bytes()
+        .all(|byte| byte.is_ascii_alphanumeric() || byte == b' ')
 }
 
 /// Returns `true` if what isn't the name of a parameter may be a URL, or the name of a file.
@@ -84,15 +91,20 @@ pub fn query_advice(fault: QueryFault) -> &'static str {
             "Only filter, is, isnot, has and hasnot may be given more than once."
         }
         QueryFault::BadMatch => "matchType is exact, prefix, host or domain.",
-        QueryFault::BadStamp => "from and to are 1 to 14 digits, such as 2016 or 20160919172024.",
+        QueryFault::BadStamp => {
+            "from and to are 1 to 14 digits without - and :, such as 2016 or 20160919172024."
+        }
         QueryFault::BadFilter => {
-            "A condition is FIELD:TEXT, such as filter=statuscode:200, with a field that fl may have."
+            "A condition is FIELD:TEXT, such as filter=statuscode:200. The fields are urlkey, timestamp, original, mimetype, \
+             statuscode, digest, length, offset and filename."
         }
         QueryFault::NotLiteral => {
             "filter takes a literal text, without \\ ^ $ . | ? * + ( ) [ ] { }. For a part of a value, \
              write has=FIELD:TEXT, and for a choice of values a query for each."
         }
-        QueryFault::BadLimit => "limit is a number from 1 to 1000000.",
+        QueryFault::BadLimit => {
+            "limit is a number from 1 to 1000000. warcdx-gateway takes limit=-5 too, for the last five."
+        }
         QueryFault::BadResume => "resumeKey is a key that a page has printed, as it was printed.",
         QueryFault::BadField => {
             "fl is a list, with ',' between, of urlkey, timestamp, original, mimetype, statuscode, digest, length, offset \
@@ -147,7 +159,7 @@ fn member_advice(cause: Cause) -> &'static str {
     match cause {
         Cause::Version => {
             "No record begins the member's text: its first line isn't WARC/1.0 or WARC/1.1. Convert an ARC file to a WARC \
-             file first."
+             file first, and decompress an index for warcdx query."
         }
         Cause::ShortHead | Cause::ShortBlock | Cause::Closing => {
             "The member ends within its record. If the record goes on in the next member, pack the file again: \
@@ -230,10 +242,17 @@ pub fn index_advice<R: Runtime>(
         IndexFault::DuplicateName => Some(
             "Another archive has this file name: rename one of them.",
         ),
-        IndexFault::NoRecord => Some(
-            "No record begins at this offset, or it has another length: list prints the offsets.",
-        ),
+        IndexFault::NoRecord => Some(no_record_advice(console, name)),
         IndexFault::Memory | IndexFault::Write => None,
+    }
+}
+
+/// Returns why no record was found at an offset of the archive of this name.
+fn no_record_advice<R: Runtime>(console: &Console<R>, name: &str) -> &'static str {
+    match file_kind(console.rt, name) {
+        _ if is_unpacked(console, name) => NO_RECORD,
+        FileKind::Warc | FileKind::Other => NO_RECORD,
+        kind => no_archive_advice(kind),
     }
 }
 
@@ -241,6 +260,9 @@ pub fn index_advice<R: Runtime>(
 pub fn answer_advice<R: Runtime>(rt: &R, name: &str, fault: AnswerFault) -> Option<&'static str> {
     match fault {
         AnswerFault::Read(_source) => Some(unread_advice(rt, name)),
+        AnswerFault::BadLine(_source, _offset) if name.ends_with("manifest.json") => Some(
+            MANIFEST,
+        ),
         AnswerFault::BadLine(_source, _offset) => Some(no_index_advice(file_kind(rt, name))),
         AnswerFault::OutOfOrder(_source, _offset) => Some(order_advice(file_kind(rt, name))),
         _ => None,

@@ -16,8 +16,8 @@ pub fn refused_part(text: &str, fault: QueryFault) -> Option<RefusedPart<'_>> {
     match fault {
         QueryFault::Unknown => part(unknown_parameter(text), "isn't a parameter"),
         QueryFault::RepeatedParameter => part(repeated_parameter(text), "is given twice"),
-        QueryFault::BadField => part(unknown_field(text), "isn't a field"),
-        QueryFault::BadFilter => part(unknown_condition(text), "isn't a field"),
+        QueryFault::BadField => field_part(unknown_field(text)),
+        QueryFault::BadFilter => field_part(unknown_condition(text)),
         _ => None,
     }
 }
@@ -32,6 +32,17 @@ fn part<'a>(name: Option<&'a str>, what: &'static str) -> Option<RefusedPart<'a>
         Some(name) => Some(RefusedPart { name, what }),
         None => None,
     }
+}
+
+/// Returns a part that is no field, and which field was meant if it is a member of a line's object.
+fn field_part(name: Option<&str>) -> Option<RefusedPart<'_>> {
+    let what = match name {
+        Some("url") => "isn't a field, and original is",
+        Some("mime") => "isn't a field, and mimetype is",
+        Some("status") => "isn't a field, and statuscode is",
+        _ => "isn't a field",
+    };
+    part(name, what)
 }
 
 fn unknown_parameter(text: &str) -> Option<&str> {
