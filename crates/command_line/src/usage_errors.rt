@@ -103,7 +103,7 @@ fn one_too_many(alloc: Global, words: &[String], text: String) -> WordsFault
 {
     match words {
         [command, _offset, length, _archive]
-            if command == "get" && read_offset(length).is_some() => with_tip(
+            if command.as_str() == "get" && read_offset(length).is_some() => with_tip(
             alloc,
             "unexpected argument",
             length,
