@@ -357,7 +357,7 @@ advises "why: a file name twice"    "Another archive has this file name: rename 
 advises "why: no record"            "No record begins at this offset, or it has another length: list prints the offsets." 1 get 1 r.warc
 advises "why: no record of an index" "It seems to be an index: warcdx query reads indexes."              1 get --length 5 1 sorted.cdxj
 advises "why: no record of gzip"    "It is compressed by gzip: warcdx-gz reads .warc.gz files."         1 get --length 5 1 r.warc.gz
-advises "why: no record of any other file" "No record begins at this offset, or it has another length: list prints the offsets." 1 get --length 5 1 forged
+advises "why: no record of any other file" "No record begins there: its first line isn't WARC/1.0 or WARC/1.1." 1 get --length 5 1 forged
 advises "why: a folder as an index" "It is a folder: of an index of warcdx-update, name its current/*.cdxj." 3 check folder
 advises "why: an index of gzip"     "It is compressed by gzip: decompress an index. Of an archive, warcdx-gz index makes one." 1 check sorted.cdxj.gz
 advises "why: an index of zstd"     "It is compressed by zstd: decompress it first."                    1 check r.warc.zst

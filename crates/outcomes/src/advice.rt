@@ -24,9 +24,6 @@ const UTF_16: &str = "It is a text in UTF-16: iconv -f UTF-16 -t UTF-8 converts 
 
 const ARC: &str = "It is an ARC file: convert it to a WARC file first.";
 
-const NO_RECORD: &str =
-    "No record begins at this offset, or it has another length: list prints the offsets.";
-
 const MANIFEST: &str =
     "It is the list of an index of warcdx-update, of which current/*.cdxj are the indexes.";
 
@@ -136,7 +133,7 @@ pub fn archive_advice<R: Runtime>(
                 "It is a folder: warcdx-update indexes the archives of a folder."
             }
             cause if is_unpacked(console, name) => member_advice(cause),
-            Cause::Version if fault.offset == 0 => no_archive_advice(file_kind(console.rt, name)),
+            Cause::Version => no_archive_advice(file_kind(console.rt, name)),
             cause => cause_advice(cause),
         },
         CaptureFault::KeyTooLong(_offset) => "There is no room for the key of the record's URL.",
@@ -242,17 +239,10 @@ pub fn index_advice<R: Runtime>(
         IndexFault::DuplicateName => Some(
             "Another archive has this file name: rename one of them.",
         ),
-        IndexFault::NoRecord => Some(no_record_advice(console, name)),
+        IndexFault::NoRecord => Some(
+            "No record begins at this offset, or it has another length: list prints the offsets.",
+        ),
         IndexFault::Memory | IndexFault::Write => None,
-    }
-}
-
-/// Returns why no record was found at an offset of the archive of this name.
-fn no_record_advice<R: Runtime>(console: &Console<R>, name: &str) -> &'static str {
-    match file_kind(console.rt, name) {
-        _ if is_unpacked(console, name) => NO_RECORD,
-        FileKind::Warc | FileKind::Other => NO_RECORD,
-        kind => no_archive_advice(kind),
     }
 }
 
