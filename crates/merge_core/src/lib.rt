@@ -20,6 +20,7 @@ mod state;
 
 pub use crate::fault::{FeedFault, MergeFault};
 pub use crate::indexes::{MergedLines, merge_indexes};
+pub use crate::keyed_line::KeyedLine;
 pub use crate::line_buffers::LineBuffers;
 pub use crate::line_writer::LineWriter;
 pub use crate::merging::merge;

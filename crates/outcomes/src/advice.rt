@@ -250,9 +250,7 @@ pub fn index_advice<R: Runtime>(
 pub fn answer_advice<R: Runtime>(rt: &R, name: &str, fault: AnswerFault) -> Option<&'static str> {
     match fault {
         AnswerFault::Read(_source) => Some(unread_advice(rt, name)),
-        AnswerFault::BadLine(_source, _offset) if name.ends_with("manifest.json") => Some(
-            MANIFEST,
-        ),
+        AnswerFault::BadLine(_source, _offset) if name.ends_with("manifest.json") => Some(MANIFEST),
         AnswerFault::BadLine(_source, _offset) => Some(no_index_advice(file_kind(rt, name))),
         AnswerFault::OutOfOrder(_source, _offset) => Some(order_advice(file_kind(rt, name))),
         _ => None,

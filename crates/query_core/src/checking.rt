@@ -7,7 +7,7 @@ ghost use Rattle.query_core.specs.Checking.{FallsAfter, IsChecked, IsCheckFault}
 use crate::conversions::fault_of_index;
 use crate::fault::AnswerFault;
 use cdxj_core::Line;
-use merge_core::LineBuffers;
+use merge_core::{KeyedLine, LineBuffers};
 use source_core::{Cursor, Source};
 use std::alloc::Global;
 
@@ -15,7 +15,9 @@ fn falls_after(previous: &Option<Box<Line>>, line: &Line) -> bool
     ensures { (result ≡ true) ↔ FallsAfter (option_map (λ b. b.value) previous.now) line.now }
 {
     match previous {
-        Some(previous) => previous.pair().cmp(&line.pair()).is_gt(),
+        Some(previous) => KeyedLine::new(previous)
+            .compare_pair(&KeyedLine::new(line))
+            .is_gt(),
         None => false,
     }
 }
