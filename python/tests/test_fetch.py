@@ -218,7 +218,7 @@ class Fetching(Case):
             ("example.com/x*", "no index has a capture of it; docs/FAQ.md has the usual causes"),
             (
                 "url=example.com&from=June",
-                "the query is refused: BadStamp in from: from and to are 1 to 14 digits, such as 2016 or 20160919172024.",
+                "the query is refused: BadStamp in from: from and to are 1 to 14 digits without - and :, such as 2016 or 20160919172024.",
             ),
         ):
             for output in ("all", "all.warc.gz"):
