@@ -3,6 +3,7 @@ import contextlib
 import json
 import os
 import pathlib
+import resource
 import shutil
 import signal
 import sqlite3
@@ -186,6 +187,27 @@ class StoreTest(unittest.TestCase):
                 raise CannotUpdate
             self.assertEqual(list(self.folder.parent.rglob("*")), [self.folder] * is_there)
         self.assertEqual(stat.S_IMODE(self.folder.stat().st_mode), 0o750)
+
+    def test_a_first_run_on_a_full_disk_leaves_nothing_but_a_folder_that_was_there(self) -> None:
+        usual = resource.getrlimit(resource.RLIMIT_FSIZE)
+        self.addCleanup(resource.setrlimit, resource.RLIMIT_FSIZE, usual)
+        for size in (0, 1000, 5000, 20_000):
+            for is_there in (False, True):
+                self.folder.mkdir() if is_there else None
+                resource.setrlimit(resource.RLIMIT_FSIZE, (size, usual[1]))
+                with self.subTest(size=size), self.assertRaises((OSError, CannotUpdate)), self.store.locked(self.settings):
+                    self.fail("made")
+                resource.setrlimit(resource.RLIMIT_FSIZE, usual)
+                self.assertEqual(list(self.folder.parent.rglob("*")), [self.folder] * is_there)
+                self.folder.rmdir() if is_there else None
+
+    def test_an_empty_database_that_another_process_has_is_left(self) -> None:
+        self.folder.mkdir()
+        with contextlib.closing(sqlite3.connect(self.folder / "state.db", isolation_level=None)) as other:
+            other.execute("BEGIN EXCLUSIVE")
+            with self.assertRaisesRegex(CannotUpdate, "another process"), self.store.locked(self.settings):
+                self.fail("not locked")
+            self.assertEqual((self.folder / "state.db").stat().st_size, 0)
 
     def test_what_an_ended_run_has_left_is_removed(self) -> None:
         """It is what has a number that was given, and that the database doesn't have. A state that wasn't made is made."""

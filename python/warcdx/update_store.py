@@ -72,8 +72,7 @@ class Store:
     def locked(self, settings: Settings) -> Iterator[None]:
         """Keeps other processes from the folder, makes it if there is none, and removes what an ended run of the command has left.
 
-        What is made here is removed if nothing but the database was made. A folder that was there before stays. So does an
-        empty database where the disk took nothing, which the next run takes over: another first run may be about to fill it.
+        What is made here is removed if nothing but the database was made. A folder that was there before stays.
         """
         self.is_made()  # so that nothing is made in a folder that is used otherwise
         is_own = states.make_folder(self.folder)
@@ -324,8 +323,13 @@ class Store:
         with _errors_of(self._path), contextlib.closing(sqlite3.connect(self._path, timeout=0, isolation_level=None)) as self._database:
             if is_alone:
                 self._ask("PRAGMA locking_mode = EXCLUSIVE")
-                with self._transaction():
-                    pass
+                try:
+                    with self._transaction():
+                        pass
+                except (OSError, CannotUpdate) as error:  # the database is locked all the same, unless it is another's
+                    if not isinstance(error, (_Locked, PermissionError)) and is_regular(self._path, 0):
+                        self._remove_unused()
+                    raise
             yield
 
     @contextlib.contextmanager
@@ -342,6 +346,10 @@ class Store:
                 raise
 
 
+class _Locked(CannotUpdate):
+    """Another process has the database."""
+
+
 def _changed_by_others(path: str) -> CannotUpdate:
     return CannotUpdate(f"{path} isn't as warcdx-update has written it; {_WAY_OUT}")
 
@@ -354,7 +362,7 @@ def _errors_of(path: str) -> Iterator[None]:
     except sqlite3.Error as error:
         said = str(error)
         if "is locked" in said:
-            raise CannotUpdate("another process updates this index") from None
+            raise _Locked("another process updates this index") from None
         if "Could not decode" in said:  # a text that isn't UTF-8
             raise _changed_by_others(path) from None
         for words, number in (("is full", errno.ENOSPC), ("readonly", errno.EACCES)):
