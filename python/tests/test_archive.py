@@ -63,6 +63,10 @@ class Archives(Case):
         self.raises(faults.CannotOpen, list, Archive(self.folder / "nosuch", program=PROGRAM).list())
         self.raises(faults.CannotOpen, Archive(self.folder / "nosuch", program=PROGRAM).get, 0)
         self.raises(faults.Read, list, Archive(self.folder, program=PROGRAM).list())
+        found = self.raises(faults.Read, open_archive, "/proc/self/mem", program=PROGRAM)
+        self.assertEqual(("Input/output error", "/proc/self/mem: Read (Input/output error)"), (found.reason, str(found)))
+        self.assertEqual(str(found), str(pickle.loads(pickle.dumps(found))))
+        self.assertIn("Read at 0 (It is a folder: ", str(self.raises(faults.Read, Archive(self.folder, program=PROGRAM).get, 0)))
         self.raises(faults.Version, list, Archive(self.put("x" * 20), program=PROGRAM).verify())
         unsized = Archive("/proc/self/maps", program=PROGRAM)  # of which the system gives no size
         for records in (iter(unsized), check_archive(unsized), unsized.streams()):
@@ -70,6 +74,12 @@ class Archives(Case):
         self.assertEqual([], list(Archive(self.put(""), program=PROGRAM)))
         self.assertEqual([], list(Archive(self.put("", "empty"), program=PROGRAM).list()))
         self.assertEqual(2, self.raises(ProgramEnded, list, Archive(os.fsdecode(b"\xff"), program=PROGRAM).list()).status)
+
+    def test_a_pipe_is_not_read_by_what_would_read_it_again(self) -> None:
+        os.mkfifo(self.folder / "pipe")  # which nobody writes, so that reading it doesn't end
+        archive = open_archive(self.folder / "pipe", program=PROGRAM)
+        for records in (iter(archive), archive.streams()):
+            self.assertIn("a pipe can be read only once", str(self.raises(Unreadable, next, records)))
 
     def test_a_fault_has_the_advice_of_the_program(self) -> None:
         for text, advice in (("<p>", "It seems to be an HTML or XML file, and not a WARC file."), ("x", "No record begins there: ")):

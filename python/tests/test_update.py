@@ -21,7 +21,7 @@ from warcdx.ending import Ended
 from warcdx.states import MOST_RUNS
 from warcdx.update_archives import Found, FoundArchive, Passed
 from warcdx.update import Merging, batches_of
-from warcdx.update_reports import damage_of
+from warcdx.update_reports import FAILED, Action, Report, damage_of
 from warcdx.update_tasks import Failed, _causes_of, _Lines, _whole_lines, add_hosts, index_archives, merge_runs
 from warcdx.update_workers import Threads
 
@@ -250,6 +250,14 @@ class TaskTest(unittest.TestCase):
         self.assertEqual([*causes("warcdx: ./a\n  c.warc: fault 448 ShortBlock\n  Its text.\n", "a\n  c.warc")], ["fault 448 ShortBlock"])
         self.assertEqual([*causes("warcdx-gz: ./b.gz: fault 0 BadMember\n  Its text.\n", "a.gz", "b.gz")], ["", "fault 0 BadMember"])
         self.assertEqual([*causes("warcdx: ./a.warc: cannot open\n  No such file\n", "a.warc")], ["cannot open"])
+        for wanted in ("cannot open (Permission denied)", "fault 512 Read (Input/output error)"):
+            line, _, reason = wanted.partition(" (")
+            text = f"warcdx: ./a\n  c.warc: {line}\n  {reason[:-1]} (os error 5)\n"
+            self.assertEqual([*causes(text, "a\n  c.warc")], [wanted])
+            self.assertTrue(Report("a.warc", Action.LEFT_OUT, FAILED, wanted, 0, 0).is_lasting)
+        self.assertEqual(
+            damage_of("a", "fault 512 Read (Is a directory)"), {"archive": "a", "offset": 512, "cause": "Read (Is a directory)"}
+        )
         self.assertEqual([*causes("warcdx: Memory\n", "a.warc")], [""])
         with self.assertRaises(Failed):
             [*causes("warcdx: Memory\n", "a.warc", "b.warc")]

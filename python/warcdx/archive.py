@@ -109,6 +109,7 @@ class Archive:
 
     def listed_streams(self, start: int = 0) -> Iterator[tuple[Listed, RecordStream]]:
         """Yields what `list` has of each record from an offset on, and the record as `streams` does."""
+        expect_file(self.path)
         for listed in self.list():
             if listed.offset < start:
                 continue
@@ -231,7 +232,6 @@ class Archive:
 
     def _further_records(self, start: int) -> Iterator[Record]:
         """Yields the records from an offset on, of which the program says where they are and what is at fault."""
-        expect_file(self.path)
         for listed, stream in self.listed_streams(start):
             yield Record(stream.head.fields, b"".join(stream.whole_block()), listed.offset, listed.length)
 
@@ -317,7 +317,9 @@ def _first_bytes(path: str) -> Optional[bytes]:
         try:
             return file.read(len(MAGIC))  # None if a pipe has taken its place
         except OSError as error:
-            raise Read("Read", path) from error
+            unread = Read("Read", path)
+            unread.reason = error.strerror or ""
+            raise unread from error
 
 
 def _parted(text: bytes) -> tuple[bytes, IO[bytes]]:

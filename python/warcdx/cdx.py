@@ -183,7 +183,7 @@ def _line_of(file: IO[bytes]) -> bytes:
         return file.readline(MOST_LINE + 1)
     except OSError as error:
         fault = Read("Read")
-        fault.advice = error.strerror or ""
+        fault.reason = error.strerror or ""
         raise fault from error
 
 

@@ -218,11 +218,10 @@ def line_of(fault: Fault, advice: str = "") -> str:
     """Returns what is said of a fault: its file and its offset, if they are known, the cause, and what to do."""
     file = "" if fault.file is None else f"{printable(fault.file)}: "
     place = "" if fault.offset is None else f" {fault.offset}"
-    why = advice or fault.advice
-    if isinstance(fault, CannotOpen):
-        why = why or _advice_on_name(fault)
-        return f"{file}cannot open" + (f" ({fault.reason})" if fault.reason else "") + (f"; {why}" if why else "")
-    return f"{file}{fault.name}{place}" + (f": {why}" if why else "")
+    what = "cannot open" if isinstance(fault, CannotOpen) else fault.name + place
+    reason = f" ({fault.reason})" if fault.reason else ""
+    why = advice or fault.advice or isinstance(fault, CannotOpen) and _advice_on_name(fault)
+    return f"{file}{what}{reason}" + (f"{';' if isinstance(fault, CannotOpen) else ':'} {why}" if why else "")
 
 
 def _advice_on_name(fault: CannotOpen) -> str:

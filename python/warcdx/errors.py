@@ -99,10 +99,12 @@ class Fault(Error):
 
     `file` is the path of the archive or index as it was given, and `offset` the offset in bytes at which
     the record or line at fault begins. `number` is that of the index in the order in which they were
-    given, from 0, if a reply has named it. Each is None if the program doesn't name it. `advice` is what the
-    program says besides: what the fault means, or what to do. It is often empty.
+    given, from 0, if a reply has named it. Each is None if the program doesn't name it. `reason` is what the system
+    says of a call that has failed, and `advice` what the program says besides: what the fault means, or what to do.
+    Both are often empty.
     """
 
+    reason = ""
     advice = ""
 
     def __init__(self, name: str, file: Optional[str] = None, offset: Optional[int] = None, number: Optional[int] = None) -> None:
@@ -113,5 +115,7 @@ class Fault(Error):
         self.number = number
 
     def __str__(self) -> str:
+        file = "" if self.file is None else f"{self.file}: "
         place = "" if self.offset is None else f" at {self.offset}"
-        return f"{self.file}: {self.name}{place}" if self.file is not None else self.name + place
+        why = "; ".join(filter(None, (self.reason, self.advice)))
+        return f"{file}{self.name}{place}" + (f" ({why})" if why else "")

@@ -67,9 +67,6 @@ class OtherRecord(Fault):
 
     advice = "it isn't the record of the index line; if the archive was replaced, index it anew"
 
-    def __str__(self) -> str:
-        return f"{super().__str__()} ({self.advice})"
-
 
 class BadName(Fault):
     """The file name of the archive is empty or too long."""
@@ -92,16 +89,12 @@ class TooManySources(Fault):
 
 
 class CannotOpen(Fault):
-    """The file can't be opened. `reason` is what the system says, or empty if it isn't known.
+    """The file can't be opened.
 
     It is a FileNotFoundError too if there is no such file, and a PermissionError if opening it isn't allowed.
     """
 
-    reason = ""
     system_error: Optional[int] = None  # the number of the system's error
-
-    def __str__(self) -> str:
-        return super().__str__() + (f" ({self.reason})" if self.reason else "")
 
     def __reduce__(self) -> "tuple[Any, ...]":
         if self.file is None or self.system_error is None:

@@ -13,7 +13,7 @@ _LINE_AT = _MESSAGE % "(.*): (BadLine|OutOfOrder) ([0-9]+)"
 _QUERY = _MESSAGE % "query: ([A-Za-z0-9]+)"
 _FILE = _MESSAGE % "(.*): ([A-Za-z0-9]+|cannot open)"
 _ALONE = _MESSAGE % "([A-Za-z0-9]+|cannot flush)"
-_SYSTEM = r".*\(os error ([0-9]+)\)"  # the second line about a failed system call
+_SYSTEM = r"(.*) \(os error ([0-9]+)\)"  # the second line about a failed system call
 _NAMES = {"cannot open": "CannotOpen", "cannot flush": "CannotFlush"}
 
 
@@ -30,11 +30,7 @@ def fault(name: str, file: Optional[str] = None, offset: Optional[int] = None, n
 def advice_in(said: str) -> str:
     """Returns the second line of a message, unless it is the system's reason, or an empty text."""
     last = said.removesuffix("\n").rpartition("\n")[2]
-    return _advice_of(last[2:]) if last.startswith("  ") else ""
-
-
-def _advice_of(line: Optional[str]) -> str:
-    return "" if line is None or re.fullmatch(_SYSTEM, line) else line
+    return last[2:] if last.startswith("  ") and not re.fullmatch(_SYSTEM, last) else ""
 
 
 def error_of(status: int, said: str, program: str = "warcdx") -> Error:
@@ -46,17 +42,14 @@ def error_of(status: int, said: str, program: str = "warcdx") -> Error:
     elif found := re.fullmatch(_LINE_AT, said, re.DOTALL):
         error = fault(found[2], found[1], int(found[3]))
     elif found := re.fullmatch(_FILE, said, re.DOTALL):
-        error = _fault_of_file(_NAMES.get(found[2], found[2]), found[1], found["advice"] or "")
+        error = fault(_NAMES.get(found[2], found[2]), found[1])
     elif found := re.fullmatch(_ALONE, said):
         error = fault(_NAMES.get(found[1], found[1]))
     else:
         return ProgramEnded(status, re.sub("^  .*\n?", "", said, flags=re.MULTILINE), program)
-    error.advice = _advice_of(found["advice"])
+    line = found["advice"] or ""
+    system = re.fullmatch(_SYSTEM, line)
+    if system and isinstance(error, faults.CannotOpen) and error.file is not None:
+        return faults.cannot_open(error.file, int(system[2]))
+    error.reason, error.advice = (system[1], "") if system else ("", line)
     return error
-
-
-def _fault_of_file(name: str, file: str, line: str) -> Fault:
-    if name == "CannotOpen":
-        system = re.fullmatch(_SYSTEM, line)
-        return faults.cannot_open(file, int(system[1]) if system else None)
-    return fault(name, file)

@@ -8,7 +8,7 @@ from collections.abc import Callable, Iterable, Iterator, Mapping, Sequence
 from typing import Any, NamedTuple, Optional
 
 from .progress import Silent
-from .states import MOST_RUNS
+from .states import MOST_RUNS, shown
 from .update_archives import Found, FoundArchive, find_archives
 from .update_outputs import Single
 from .update_reports import FAILED, GONE, Action, Outcome, Report, Said, damage_of, reason_of
@@ -130,7 +130,7 @@ class Update:
         except (CannotUpdate, Failed, OSError) as error:
             failure = reason_of(error)
         reports.sort(key=lambda report: report.archive)
-        is_there = bool(self._store.noted.state) if self._single is None else os.path.exists(self._single.path)
+        is_there = bool(shown(self._store.folder)) if self._single is None else os.path.exists(self._single.path)
         return Outcome(reports, failure, is_there, plan.gone, found.passed, self._store.faults())
 
     def _forget(self, archives: Sequence[str]) -> None:

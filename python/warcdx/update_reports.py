@@ -47,7 +47,8 @@ class Report(NamedTuple):
     @property
     def is_lasting(self) -> bool:
         """Whether the archive is at fault, and not the machine, as without memory or room on a disk."""
-        return self.status == FAULT or self.status == FAILED and damage_of(self.archive, self.message)["cause"] in _LASTING
+        cause = damage_of(self.archive, self.message)["cause"].partition(" (")[0]
+        return self.status == FAULT or self.status == FAILED and cause in _LASTING
 
     def values(self) -> dict[str, Any]:
         return {**self._asdict(), "action": self.action.value}
@@ -98,7 +99,7 @@ def reason_of(error: Exception) -> str:
 
 def damage_of(name: str, cause: str) -> dict[str, Any]:
     """Returns the archive, the offset of the record at fault in bytes, and the cause, as a summary has them."""
-    words = cause.split(" ")
+    words = cause.split(" ", 2)
     if len(words) == 3 and words[0] == "fault" and words[1].isdecimal() and len(words[1]) < 20:
         return {"archive": name, "offset": int(words[1]), "cause": words[2]}
     return {"archive": name, "offset": None, "cause": cause}
