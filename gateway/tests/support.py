@@ -253,12 +253,14 @@ class Case(unittest.TestCase):
         return path
 
     def run_command(self, *arguments: str) -> Server:
-        said = self.folder / "said"
-        with open(said, "ab") as file:
-            process = subprocess.Popen(("/usr/bin/python3", COMMAND, *arguments), stdout=subprocess.PIPE, stderr=file, text=True)
-        server = Server(process, said)
+        server = Server(self.run_later(*arguments), self.folder / "said")
         self.addCleanup(server.end)
         return server
+
+    def run_later(self, *arguments: str) -> "subprocess.Popen[str]":
+        """Starts a gateway that may not answer yet."""
+        with open(self.folder / "said", "ab") as file:
+            return subprocess.Popen(("/usr/bin/python3", COMMAND, *arguments), stdout=subprocess.PIPE, stderr=file, text=True)
 
     def page(self, query: str, *indexes: pathlib.Path) -> bytes:
         """Returns what `warcdx query` writes."""

@@ -1,4 +1,4 @@
-"""The file of rules of what may not be shown: its rules, how it is read again, and collections that aren't listed."""
+"""The file of rules of what may not be shown: its rules, and how it is read again."""
 import base64
 import datetime
 import os
@@ -13,10 +13,10 @@ from werkzeug.test import Client
 
 from warcdx import ProgramEnded
 from warcdx_gateway.rules import SETTLED, Action, RulesFile, rules_of
-from warcdx_gateway.settings import BadSettings, CollectionSettings, Settings
+from warcdx_gateway.settings import MOST_FILE, BadSettings, CollectionSettings, Settings
 
 from .browse_support import PROGRAM, gateway_of
-from .support import SAMPLE, Case, Shared
+from .support import SAMPLE, Case
 
 TODAY = datetime.date(2017, 1, 1)
 
@@ -62,6 +62,22 @@ class Files(Case):
         )
         for key, wanted in (("ftp://192.0.2.1/", 2), ("ftp://[::1]:21/", 2), ("192.0.2.1:80)/", 2), ("ftp://192.0.2.11/", 0)):
             self.assertEqual(wanted, rules.action(key, "20160101000000", "-"), key)
+
+    def test_a_rule_hides_what_its_words_mean(self) -> None:
+        """However a URL or a key is written, or the file that has it: with another one it would close nothing, and say nothing."""
+        page, other = "com,example)/", "com,example:443)/"
+        for rule, keys in (
+            ('url = "HTTP://u:p@Example.COM.:80/#a"', (page,)), ('url = "http:/example.com"', (page,)), ('url = "u@example.com"', (page,)),
+            ('url = "example.com:443/"', (page, other)), ('url = "https://example.com:443/"', (page,)), ('prefix = "example.com:443"', (page, other)),
+            ('url = "example.com:80/?u=http://a.example/"', ("com,example)/?u=http://a.example/", "com,example:80)/?u=http://a.example/")),
+            ('url = "screenshot:http://Example.com/"', ("screenshot:http://example.com/",)), ('url = "ftp://a.example"', ("ftp://a.example",)),
+            ('host = "u@Example.COM.:80#a"', (page, other, "dns:example.com")), ('domain = "www.example.com."', (page, "com,example,a)/")),
+            ('host = "bücher.example"', ("example,xn--bcher-kva)/",)), ('key = "com,Example)/A"', ("com,Example)/A", "com,example)/a")),
+        ):  # fmt: skip
+            for text in (f'[[rules]]\naction = "exclude"\n{rule}\n', f'\ufeff[[rules]]\r\naction = "exclude"\r\n{rule}\r\n'):
+                rules = rules_of(self.text(text), "main")
+                self.assertEqual([], [key for key in keys if rules.action(key, "20160101000000", "-") != Action.EXCLUDE], rule)
+                self.assertEqual(Action.SHOW, rules.action("com,examples)/", "20160101000000", "-"), rule)
 
     def test_a_digest_is_closed_in_all_its_spellings(self) -> None:
         """Programs write it into indexes with or without its name, in base 32 or base 16."""
@@ -159,6 +175,23 @@ class Files(Case):
                 found.look()
             self.assertIn(b"example,a", found.text)
 
+    def test_a_file_that_can_not_be_read_for_a_time(self) -> None:
+        """It comes into use when it can be, although nobody has changed it, and one line says why it wasn't."""
+        path = self.put("rules = []\n", "rules")
+        for number, error in enumerate((OSError(5, "Input/output error"), MemoryError())):
+            with mock.patch("time.monotonic", return_value=100.0) as clock, mock.patch("warcdx_gateway.rules.say") as said:
+                found = RulesFile(path, PROGRAM, ["main"])
+                path.write_text(f'[[rules]]\naction = "exclude"\nkey = "{number}{"a" * number}"\n')
+                with mock.patch("warcdx_gateway.rules.tables_of", side_effect=error):
+                    for _ in range(99):
+                        found.look()
+                        clock.return_value += SETTLED
+                said.assert_called_once()
+                for _ in range(40):
+                    clock.return_value += SETTLED
+                    found.look()
+                self.assertIn(f'"{number}'.encode(), found.text)
+
     def test_rules_for_which_there_is_no_memory_open_nothing(self) -> None:
         self.put(SAMPLE)
         each = CollectionSettings("crawl", "A crawl", (self.folder / "index",))
@@ -171,18 +204,6 @@ class Files(Case):
                 self.assertEqual((400, False), (found.status_code, "AAAA" in found.text))
         found = client.get("/cdx?url=example.com")
         self.assertEqual((200, ""), (found.status_code, found.text))
-
-    def test_a_collection_that_is_not_listed_is_not_named(self) -> None:
-        index = (self.put(SAMPLE),)
-        each = CollectionSettings("open", "Open", index), CollectionSettings("private", "Private", index, listed=False)
-        gateway = gateway_of(self, Settings(each, "open", program=PROGRAM))
-        for collection in gateway.collections.values():
-            collection.is_old = True
-        old = "the old indexes are in use\n"
-        self.assertEqual(f"ok\nopen: {old}a collection: {old}", Client(gateway).get("/health").text)
-        gateway.collections["private"].is_usable = False
-        found = Client(gateway).get("/health")
-        self.assertEqual((503, "a collection: "), (found.status_code, found.text.partition("refused")[0]))
 
     def test_a_tag_does_not_tell_what_the_rules_are(self) -> None:
         """Whoever guesses them could else find out whether that is so."""
@@ -213,6 +234,17 @@ class Files(Case):
             (f"{good}url = 1\n", "'url' has to be a text on one line"),
             (f'{good}from = "x"\n', "'from' has to be 1 to 14 digits"),
             (f'{good}digest = "sha1:"\n', "'digest' can't be one"),
+            ('[[rules]]\naction = ["exclude"]\nurl = "a"\n', "rule 1: 'action' has to be one of metadata, exclude"),
+            (f"{good}embargo = {'9' * 5000}\n", "rules: Exceeds the limit "),
+            (f"{good}url = {'[' * 5000}\n", "rules: maximum recursion depth exceeded"),
+            (f"{good}key = 'a'\n#" + "x" * MOST_FILE, "it has more than "),
+            (f'{good}url = "HTTP://["\n', "it isn't the URL of a page: HTTP://["),
+            (f'{good}host = ".a.example"\n', "it isn't the name of a host alone, such as example.com: .a.example"),
+            (f'{good}domain = "a..example"\n', "it isn't the name of a host alone, "),
+            (f'{good}host = "a.example:8080"\n', "it isn't the name of a host alone, "),
+            (f'{good}key = "com,example)/ "\n', "'key' has to be a text on one line, "),
+            (f'{good}url = "a.example/\\u200b"\n', "'url' has to be a text on one line, "),
+            (f'{good}from = "2017"\nto = "201612"\n', "rule 1: 'from' is after 'to'"),
             (f"{good}embargo = 0\n", "'embargo' has to be a number of days"),
             (f"{good}embargo = true\n", "'embargo' has to be a number of days"),
             (f'{good}collection = "nosuch"\n', "there is no collection 'nosuch'"),
@@ -220,6 +252,14 @@ class Files(Case):
             with self.assertRaises(BadSettings) as caught:
                 self.text(text)
             self.assertIn(said, str(caught.exception))
+
+    def test_what_is_no_file_of_rules_is_refused_at_once(self) -> None:
+        (self.folder / "folder").mkdir()
+        os.mkfifo(self.folder / "pipe")
+        for name, said in (("folder", "not a regular file"), ("pipe", "not a regular file"), ("missing", "No such file or directory")):
+            with self.assertRaises(BadSettings) as caught:
+                RulesFile(self.folder / name, PROGRAM, ["main"])
+            self.assertEqual(f"{self.folder / name}: {said}", str(caught.exception))
 
     def test_many_rules_cost_little(self) -> None:
         text = self.text("".join(f'[[rules]]\naction = "exclude"\nurl = "http://example.com/{n}"\n' for n in range(20_000)))
@@ -296,56 +336,6 @@ class Served(Case):
         path.write_text('[[rules]]\naction = "exclude"\nhost = "example.com"\n')
         self.wait_for(lambda: server.ask("/cdx?url=example.com", If_None_Match=tag).status == 200, "it is an old answer")
         self.assertEqual(b"", server.ask("/cdx?url=example.com", If_None_Match=tag).body)
-
-
-class Unlisted(Shared):
-    settings = '[collections.open]\nindexes = ["index"]\n[collections.private]\nindexes = ["index"]\nlisted = false\n'
-
-    def test_it_is_in_no_list(self) -> None:
-        for path in ("/", "/browse", "/collinfo.json"):
-            for kind in ("text/html", "text/plain"):
-                found = self.server.ask(path, Accept=kind)
-                shown = found.fields.get("location", found.text)
-                self.assertIn("open", shown)
-                self.assertNotIn("private", shown)
-
-    def test_its_paths_have_one_front(self) -> None:
-        unknown = self.server.ask("/nosuch-index?url=example.com")
-        for path in ("/private-index", "/private-cdx", "/private"):
-            found = self.server.ask(f"{path}?url=example.com")
-            self.assertEqual((404, unknown.body), (found.status, found.body))
-            self.assertEqual(200, self.server.ask(f"{path.replace('private', 'open')}?url=example.com").status)
-        for path in ("/private/index", "/private/cdx", "/private/"):
-            self.assertEqual(200, self.server.ask(f"{path}?url=example.com").status)
-
-    def test_its_front_stands_in_the_path_as_it_is_sent(self) -> None:
-        """A server in front may compare paths without their escapes undone."""
-        for path in ("/%70rivate/cdx", "/private%2fcdx", "//private/cdx", "///private/browse/", "/%70rivate/timemap/link/example.com"):
-            found = self.server.ask(f"{path}?url=example.com")
-            self.assertEqual((404, b"refused NotFound: there is no such collection\n"), (found.status, found.body), path)
-        self.assertEqual(200, self.server.ask("http://localhost/private/cdx?url=example.com").status)
-
-    def test_its_path_has_no_way_out(self) -> None:
-        """A server in front compares a path without its `..`, as nginx does, and sends it as it came: then none may be in it."""
-        for path in (
-            "timegate/http://example.com/..",
-            "2016id_/http://example.com/%2e%2e/%2E./..",
-            "timemap/link/http://example.com/..?x",
-            "cdx/../../cdx",
-        ):
-            path += "" if "?" in path else "/../../../../cdx"
-            found = self.server.ask(f"/private/{path}")
-            self.assertEqual((404, b"refused NotFound: there is no such collection\n"), (found.status, found.body), path)
-            self.assertNotIn(b"no such collection", self.server.ask(f"/open/{path}").body)
-        self.assertEqual(b"there is no capture of this URL\n", self.server.ask("/private/timegate/http://example.com/?x=/../..").body)
-        self.assertEqual(200, self.server.ask("/private/cdx?url=example.com/x/../a").status)
-
-    def test_it_can_not_be_the_main_one(self) -> None:
-        from warcdx_gateway.settings import settings_of
-
-        table = {"collections": {"a": {"indexes": ["x"], "listed": False}}}
-        with self.assertRaises(BadSettings):
-            settings_of(table, self.folder)
 
 
 if __name__ == "__main__":

@@ -13,6 +13,7 @@ from typing import Any, Optional
 
 from warcdx import FIELDS, Capture, Fault, Index, ReplyTooLate
 from warcdx.program import memory_file
+from warcdx.states import MOST_RUNS
 
 from .generation import Generation, Identity, names_of
 from .ranges import Lines, Range
@@ -275,8 +276,8 @@ class Source:
 
 
 def most_state(each: CollectionSettings) -> int:
-    """Returns the most bytes of the state of a collection in JSON, with its name."""
-    return 256 + 160 * each.most_files
+    """Returns the most bytes of the state of a collection in JSON, with its name, also if each index becomes a folder."""
+    return 256 + 160 * MOST_RUNS * len(each.indexes)
 
 
 def changed() -> Refusal:

@@ -85,7 +85,7 @@ def status_of(error: Exception) -> int:
     """Returns the exit status after an error: 1 if what was given is at fault."""
     if isinstance(error, Fault):
         return command.status_of(error)
-    is_unread = isinstance(error.__cause__, OSError)
+    is_unread = isinstance(error.__cause__, (Error, MemoryError, OSError))
     is_given = isinstance(error, (BadSettings, NotInOrder, OverflowError))
     return command.FAULTY if is_given and not is_unread else command.FAILED
 

@@ -44,9 +44,7 @@ class Generation:
         self.files: list[int] = []
         try:
             for path in paths:
-                self.files.append(os.open(path, os.O_RDONLY | os.O_CLOEXEC | os.O_NONBLOCK))
-                if not stat.S_ISREG(os.fstat(self.files[-1]).st_mode):
-                    raise OSError(errno.EINVAL, "not a regular file", str(path))
+                self.files.append(open_regular(path))
             self.stamp = stamp_of(map(os.fstat, self.files)) if stamp is None else stamp
             if not self.is_unchanged:
                 raise OSError(errno.ESTALE, os.strerror(errno.ESTALE))
@@ -74,6 +72,15 @@ class Generation:
         for file in self.files:
             os.close(file)
         self.files.clear()
+
+
+def open_regular(path: "str | os.PathLike[str]") -> int:
+    """Returns the descriptor of a regular file that is open for reading. Raises OSError, at once, also for others such as pipes."""
+    file = os.open(path, os.O_RDONLY | os.O_CLOEXEC | os.O_NONBLOCK)
+    if not stat.S_ISREG(os.fstat(file).st_mode):
+        os.close(file)
+        raise OSError(errno.EINVAL, "not a regular file", str(path))
+    return file
 
 
 def names_of(process: int, files: Sequence[int]) -> list[str]:

@@ -9,17 +9,15 @@ import os
 import pathlib
 import re
 import time
-import tomllib
 from collections.abc import Collection as Container
 from collections.abc import Iterable, Sequence
 from typing import Any, NamedTuple, Optional
 
-from warcdx import Error
 from warcdx.url_keys import host_of, keys_of
 
 from .refusal import say
 from .rows import DIGEST, KEY, STAMP
-from .settings import BadSettings
+from .settings import BadSettings, named, tables_of
 
 MOST = 32 << 20  # bytes of the rules as the workers get them
 NONE = b"[]"  # the text of no rules
@@ -28,10 +26,10 @@ STARLESS = ("url", "prefix", "host", "domain")  # in which a star, as of a query
 TARGETS = (*STARLESS, "key")
 TEXTS = ("collection", "from", "to", "digest", *TARGETS)
 NAMES = ("action", "embargo", *TEXTS)
-WEB = ("http://", "https://")
-_SCHEME = re.compile(r"[A-Za-z][A-Za-z0-9+.-]*:")
+WEB = ("http:", "https:")
+_OTHER_SCHEMES = re.compile(r"(?:[a-z][a-z0-9+.-]*:)+//", re.IGNORECASE)  # as of ftp://example.com/, or screenshot:http://example.com/
 SETTLED = 2.0  # seconds for which a file has stayed as it is before it is read again
-AGAIN = 60.0  # seconds until a file is read again for whose URLs no keys could be had
+AGAIN = 60.0  # seconds until a file is read again that couldn't be read, as for want of memory
 _STAMP = re.compile("[0-9]{1,14}")
 _DIGEST = re.compile("[!-~]+")
 _HEX_OF_SHA1 = re.compile("[0-9A-F]{40}")
@@ -153,6 +151,7 @@ class RulesFile:
         self._seen = self._read_at = self._identity()
         is_known = before is None or self._read_at == before._read_at
         self._since = -SETTLED if is_known else time.monotonic()  # when it was first seen as it is
+        self._told = ""  # why the old rules stay in use
         self.text: bytes = NONE if before is None else before.text
         self.text = NONE if path is None else self._read(path)
 
@@ -180,12 +179,13 @@ class RulesFile:
             text = self._read(self._path)
             if self._identity() != found:
                 return  # it is another one by now
-            self.text = text
+            self.text, self._told = text, ""
             say(f"{self._path}: the rules were read again")
         except BadSettings as error:
-            say(f"the old rules stay in use: {error}")
-            if isinstance(error.__cause__, Error):  # the program has failed, as for want of memory
-                self._read_at, self._since = (), now + AGAIN
+            self._read_at, self._since = (), now + AGAIN
+            if str(error) != self._told:
+                self._told = str(error)
+                say(f"the old rules stay in use: {error}")
 
     def _identity(self) -> tuple[int, ...]:
         if self._path is None:
@@ -197,15 +197,11 @@ class RulesFile:
         return found.st_dev, found.st_ino, found.st_size, found.st_mtime_ns, found.st_ctime_ns
 
     def _read(self, path: pathlib.Path) -> bytes:
-        try:
-            tables = tomllib.loads(path.read_bytes().decode())
+        with named(path):
+            tables = tables_of(path)
             if not tables and self.text != NONE:  # as where a full disk has cut it
                 raise BadSettings("it is empty: rules = [] says that there are none")
             return text_of(tables, self._program, self._collections)
-        except OSError as error:
-            raise BadSettings(f"{path}: {error.strerror}") from error
-        except (tomllib.TOMLDecodeError, UnicodeDecodeError, RecursionError, BadSettings, Error) as error:
-            raise BadSettings(f"{path}: {error}") from error
 
 
 def text_of(tables: dict[str, Any], program: str, collections: Container[str]) -> bytes:
@@ -216,7 +212,7 @@ def text_of(tables: dict[str, Any], program: str, collections: Container[str]) -
         raise BadSettings("it has [[rules]] and nothing else")
     for number, table in enumerate(given, 1):
         check(number, table, collections)
-    keys = keys_by_url(program, [url for table in given if (url := url_of(table))])
+    keys = keys_by_url(program, [url for table in given for url in urls_of(table)])
     rules = [rule_of(table, keys) for table in given]
     text = json.dumps(rules, ensure_ascii=False).encode()
     if len(text) > MOST:
@@ -232,11 +228,11 @@ def check(number: int, table: dict[str, Any], collections: Container[str]) -> No
             raise BadSettings(f"rule {number}: {what}")
 
     action, embargo = table.get("action"), table.get("embargo", 1)
-    expect(action in ACTIONS, f"'action' has to be one of {', '.join(ACTIONS)}")
+    expect(action in tuple(ACTIONS), f"'action' has to be one of {', '.join(ACTIONS)}")
     for name, value in table.items():
         expect(name in NAMES, f"there is no '{name}': there are {', '.join(NAMES)}")
-        is_text = isinstance(value, str) and value and "\n" not in value and "\r" not in value
-        expect(name not in TEXTS or bool(is_text), f"'{name}' has to be a text on one line")
+        is_text = isinstance(value, str) and value and value.isprintable() and value == value.strip()
+        expect(name not in TEXTS or bool(is_text), f"'{name}' has to be a text on one line, of characters that can be seen")
         is_host = name not in ("host", "domain") or "/" not in value
         expect(is_host, f"'{name}' is the name of a host alone, such as example.com")
         has_star = name in STARLESS and (value.startswith("*") or value.endswith("*"))
@@ -244,31 +240,37 @@ def check(number: int, table: dict[str, Any], collections: Container[str]) -> No
     expect(type(embargo) is int and 0 < embargo < 1_000_000, "'embargo' has to be a number of days")
     for name in ("from", "to"):
         expect(bool(_STAMP.fullmatch(table.get(name, "0"))), f"'{name}' has to be 1 to 14 digits")
+    first, last = table.get("from", "0"), table.get("to", "9")
+    expect(first[: len(last)] <= last[: len(first)], "'from' is after 'to'")
     expect(bool(_DIGEST.fullmatch(plain_digest(table.get("digest", "0")))), "'digest' can't be one")
     expect(table.get("collection", "") in ("", *collections), f"there is no collection '{table.get('collection')}'")
     expect(len(table) > 1, f"it names nothing: it needs one of {', '.join(NAMES[1:])}")
     expect(sum(name in table for name in TARGETS) < 2, f"it has more than one of {', '.join(TARGETS)}")
 
 
-def url_of(table: dict[str, Any]) -> str:
-    """Returns the URL of a rule whose key is needed, or no text."""
+def urls_of(table: dict[str, Any]) -> list[str]:
+    """Returns the URLs of a rule whose keys are needed. Without a scheme both are meant, which have other ports of their own."""
     if host := table.get("host") or table.get("domain"):
-        return f"http://{host}/"
+        return [f"http://{host}/"]
     url: str = table.get("url") or table.get("prefix") or ""
-    return url if not url or _SCHEME.match(url) and "://" in url else f"http://{url}"
+    if not url or url.lower().startswith(WEB) or _OTHER_SCHEMES.match(url):
+        return [url] if url else []
+    return [f"{scheme}//{url}" for scheme in WEB]
 
 
 def rule_of(table: dict[str, Any], keys: dict[str, str]) -> Rule:
-    """Returns a rule in the words of an index."""
-    key, front = table.get("key", ""), keys.get(url_of(table), "")
-    found = [key or front] if key or front else []
+    """Returns a rule in the words of an index. Raises BadSettings if no capture could have its host."""
+    key = table.get("key", "")
+    found = [keys[url] for url in urls_of(table)] + ([key, key.lower()] if key else [])
     if "host" in table or "domain" in table:
-        host = front.partition(")")[0]
+        host = found[0].partition(")")[0]
+        if "" in host.split(",") or ":" in host and not host.startswith("["):
+            raise BadSettings(f"it isn't the name of a host alone, such as example.com: {table.get('host') or table.get('domain')}")
         found = [host + end for end in (")", ":", ",")[: 2 + ("domain" in table)]]
     return Rule(
         ACTIONS[table["action"]],
         table.get("collection", ""),
-        found,
+        list(dict.fromkeys(found)),
         any(name in table for name in ("prefix", "host", "domain")),
         table.get("from", ""),
         table.get("to", ""),
@@ -298,7 +300,7 @@ def keys_by_url(program: str, urls: Sequence[str]) -> dict[str, str]:
     found = [each.key.decode() for each in keys_of(program, [url.encode() for url in urls])]
     keys = dict(zip(urls, found))
     for url in urls:
-        if url not in keys or (url.startswith(WEB) and host_of(keys[url]) is None):
+        if url not in keys or (url.lower().startswith(WEB) and host_of(keys[url]) is None):
             raise BadSettings(f"it isn't the URL of a page: {url}")
     return keys
 

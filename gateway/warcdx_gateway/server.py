@@ -31,7 +31,7 @@ from .rules import RulesFile
 from .settings import BadSettings, Settings
 from .shared import Beat, Board, Metrics
 from .waiting import Costs, Shares, Waiting
-from .workers import Log, Master, Sign, Worker
+from .workers import LATER, Log, Master, Sign, Worker
 
 BACKLOG = 1024  # connections that wait for a worker
 MOST_LINE = 70_000  # bytes of the line of a request: a query has at most 65,536
@@ -215,7 +215,10 @@ def rules_file(settings: Settings, before: Optional[RulesFile] = None) -> RulesF
 
 def run(settings: Settings, read: Callable[[], Settings]) -> None:
     """Answers requests until a signal. Raises Error or OSError if it can't start."""
+    signal.pthread_sigmask(signal.SIG_BLOCK, LATER)
     allow_files(sum(each.most_files for each in settings.collections))
+    if settings.access_log not in ("", "-"):
+        open(settings.access_log, "ab").close()
     master = os.getpid()
     # systemd has a folder for a service in which nothing is removed because of its age.
     base = os.environ.get("RUNTIME_DIRECTORY")

@@ -1,25 +1,33 @@
 """The file of settings, in TOML: addresses, limits and collections."""
+import contextlib
 import dataclasses
+import errno
 import functools
 import ipaddress
 import os
 import pathlib
 import re
 import tomllib
+from collections.abc import Iterator
 from dataclasses import dataclass, field
 from typing import Any
 
+from warcdx import Error
 from warcdx.states import MOST_RUNS, files_of
+
+from .generation import open_regular
 
 NAME = re.compile(r"[A-Za-z0-9][A-Za-z0-9._-]{0,63}")
 ADDRESS = re.compile(r"[^\s:]+:[0-9]{1,5}|\[[0-9A-Fa-f:.]+\]:[0-9]{1,5}")
-RESERVED = ("browse", "cdx", "health", "metrics", "web")  # first segments of other paths
-MOST_CAPTURES = 1_000_000  # the largest limit of the program
+RESERVED = ("browse", "cdx", "collinfo.json", "favicon.ico", "health", "metrics", "robots.txt", "wayback", "web")  # of other paths
+ENDS = ("-cdx", "-index")  # of paths of a collection, after its name
+MOST_FILE = 32 << 20  # bytes of a file in TOML
+MOST_CAPTURES = 1_000_000  # the largest limit of the program, and of all limits
 MOST_INDEXES = 1024  # of the program
 MOST_WORKERS = 256
 ROOM = 0.75  # of the memory of the machine that workers take by default, as the unit of systemd says too
-LEAST_MEMORY = 256 << 20  # bytes
-WORDS = {int: "a whole number", str: "a text", bool: "true or false"}
+LEAST_MEMORY, MOST_MEMORY = 256 << 20, 1 << 50  # bytes
+WORDS = {int: "a whole number", str: "a text without U+0000", bool: "true or false"}
 
 
 class BadSettings(Exception):
@@ -28,7 +36,7 @@ class BadSettings(Exception):
 
 @dataclass(frozen=True)
 class Limits:
-    """What the gateway takes at most. Each is a number that is 1 or more, except `usual`.
+    """What the gateway takes at most. Each is a number from 1 to 1,000,000, except `usual`.
 
     `usual` is the limit of a query without one, 0 if it has none. `largest` is the largest limit,
     in captures. `held` is how many captures an answer in another order may have, and how many
@@ -72,8 +80,12 @@ class CollectionSettings:
 
     @property
     def files(self) -> list[str]:
-        """The files that are the indexes now. Raises `warcdx.faults.CannotOpen`."""
-        return [file for index in self.indexes for file in files_of(index)]
+        """The files that are the indexes now. Raises `warcdx.faults.CannotOpen`, or OSError if a folder has too many."""
+        found = [files_of(index) for index in self.indexes]
+        for index, files in zip(self.indexes, found):
+            if len(files) > MOST_RUNS:
+                raise OSError(errno.EFBIG, f"its manifest has more than {MOST_RUNS} runs", str(index))
+        return [file for files in found for file in files]
 
     @property
     def most_files(self) -> int:
@@ -128,16 +140,32 @@ def read_settings(path: pathlib.Path) -> Settings:
 
     Raises BadSettings. Paths in it are relative to its folder.
     """
+    with named(path):
+        try:
+            return settings_of(tables_of(path), path.parent)
+        except (tomllib.TOMLDecodeError, UnicodeDecodeError) as error:
+            way = "" if path.suffix == ".toml" else "; --indexes INDEX.. serves indexes without settings"
+            raise BadSettings(f"{error}{way}") from error
+
+
+@contextlib.contextmanager
+def named(path: pathlib.Path) -> Iterator[None]:
+    """Raises BadSettings with the path of a file for what is wrong with it."""
     try:
-        with open(path, "rb") as file:
-            return settings_of(tomllib.load(file), path.parent)
+        yield
     except OSError as error:
         raise BadSettings(f"{path}: {error.strerror}") from error
-    except (tomllib.TOMLDecodeError, UnicodeDecodeError) as error:
-        way = "" if path.suffix == ".toml" else "; --indexes INDEX.. serves indexes without settings"
-        raise BadSettings(f"{path}: {error}{way}") from error
-    except BadSettings as error:
-        raise BadSettings(f"{path}: {error}") from error
+    except (BadSettings, Error, MemoryError, RecursionError, ValueError) as error:  # the last one also for thousands of digits
+        raise BadSettings(f"{path}: {str(error) or 'there is no memory'}") from error
+
+
+def tables_of(path: pathlib.Path) -> dict[str, Any]:
+    """Returns the tables of a file in TOML. Raises OSError, BadSettings, or an error of its text."""
+    with open(open_regular(path), "rb") as file:
+        text = file.read(MOST_FILE + 1)
+    if len(text) > MOST_FILE:
+        raise BadSettings(f"it has more than {MOST_FILE} bytes")
+    return tomllib.loads(text.decode("utf-8-sig"))
 
 
 def settings_of(table: dict[str, Any], folder: pathlib.Path) -> Settings:
@@ -147,8 +175,11 @@ def settings_of(table: dict[str, Any], folder: pathlib.Path) -> Settings:
     collections = tuple(collection_of(name, each, folder) for name, each in tables.items())
     limits = limits_of(table.pop("limits", {}))
     given: dict[str, Any] = {"main": collections[0].name, **values_of(Settings, table)}
-    if given.get("rules"):
-        given["rules"] = str((folder / given["rules"]).absolute())
+    for name, others in (("rules", ("",)), ("access_log", ("", "-"))):
+        if (path := given.get(name, "")) not in others:
+            given[name] = str((folder / path).absolute())
+    if "/" in given.get("program", ""):
+        given["program"] = str((folder / given["program"]).absolute())
     settings = Settings(collections=collections, limits=limits, **given)
     main = [each for each in collections if each.name == settings.main]
     require(bool(main), "main", "is not the name of a collection")
@@ -172,10 +203,10 @@ def checked(settings: Settings) -> Settings:
     require(0 <= settings.port <= 65_535, "port", "has to be from 0 to 65535")
     require(2 <= settings.workers <= MOST_WORKERS, "workers", f"has to be 2 to {MOST_WORKERS}")
     require(1 <= wide < workers, "wide", "has to be 1 or more, and less than 'workers'")
-    require(settings.memory >= LEAST_MEMORY, "memory", f"has to be {LEAST_MEMORY} bytes or more")
+    require(LEAST_MEMORY <= settings.memory <= MOST_MEMORY, "memory", f"has to be {LEAST_MEMORY} bytes or more, and at most {MOST_MEMORY}")
     least = settings.limits.query
-    why = f"has to be more than limits.query, which is {least}"
-    require(settings.timeout > least, "timeout", why)
+    why = f"has to be more than limits.query, which is {least}, and at most {MOST_CAPTURES}"
+    require(least < settings.timeout <= MOST_CAPTURES, "timeout", why)
     why = "has to name the hosts of requests, as --host NAME does, because the address isn't one of this machine only"
     require(settings.is_local or bool(settings.hosts), "hosts", why)
     return settings
@@ -201,21 +232,25 @@ def values_of(kind: Any, table: object, where: str = "") -> dict[str, Any]:
         if wanted is None:
             raise BadSettings(f"unknown setting '{full}': there are {', '.join(types)}")
         if wanted in WORDS:
-            require(type(value) is wanted, full, f"has to be {WORDS[wanted]}")
+            require(is_text(value) if wanted is str else type(value) is wanted, full, f"has to be {WORDS[wanted]}")
             found[name] = value
         else:
-            is_list = isinstance(value, list) and all(type(each) is str and each for each in value)
+            is_list = isinstance(value, list) and all(is_text(each) and each for each in value)
             require(is_list, full, "has to be a list of texts")
             found[name] = tuple(value)
     return found
+
+
+def is_text(value: object) -> bool:
+    """Returns whether a value is a text that may be the name of a file or a host."""
+    return isinstance(value, str) and "\0" not in value
 
 
 def limits_of(table: object) -> Limits:
     limits = Limits(**values_of(Limits, table, "limits"))
     for name, value in vars(limits).items():
         least = 0 if name == "usual" else 1
-        require(value >= least, f"limits.{name}", f"has to be a number from {least}")
-    require(limits.largest <= MOST_CAPTURES, "limits.largest", f"has to be at most {MOST_CAPTURES}")
+        require(least <= value <= MOST_CAPTURES, f"limits.{name}", f"has to be a number from {least} to {MOST_CAPTURES}")
     require(limits.usual <= limits.largest, "limits.usual", "has to be at most limits.largest")
     require(limits.held <= limits.largest, "limits.held", "has to be at most limits.largest")
     return limits
@@ -225,6 +260,9 @@ def collection_of(name: str, table: object, folder: pathlib.Path) -> CollectionS
     where = f"collections.{name}"
     why = f"can't be the name of a collection: it has letters, digits, '.', '_' and '-', and isn't {', '.join(RESERVED)}"
     require(bool(NAME.fullmatch(name)) and name not in RESERVED, where, why)
+    require(
+        not name.endswith(ENDS), where, f"can't be the name of a collection: it ends with {' or '.join(ENDS)}, as paths of another one do"
+    )
     given: dict[str, Any] = {"title": name, **values_of(CollectionSettings, table, where)}
     for kind in ("indexes", "archives", "links"):
         given[kind] = tuple((folder / each).absolute() for each in given.get(kind, ()))

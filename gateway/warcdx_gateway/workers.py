@@ -1,5 +1,6 @@
 """The master and its workers, as gunicorn runs them."""
 import contextlib
+import logging
 import os
 import re
 import select
@@ -22,7 +23,8 @@ from .refusal import NAME, without_controls
 from .waiting import COSTLY_LEVEL, address_of, queue_of
 from .work import MOST_FREE, Connection, Lease, NeedsSlot
 
-ENDS = (signal.SIGTERM, signal.SIGINT, signal.SIGQUIT, signal.SIGABRT)
+HANDLED = (signal.SIGTERM, signal.SIGINT, signal.SIGQUIT, signal.SIGABRT, signal.SIGUSR1)  # by a worker
+LATER = (signal.SIGHUP, signal.SIGUSR1)  # which wait until the gateway answers
 SILENCE = 2  # seconds for a client to send its request when a worker ends
 PAUSE = 0.05  # seconds until a worker looks again for a slot for those that wait
 VERSIONS = ((1, 0), (1, 1))
@@ -73,6 +75,18 @@ class Log(gunicorn.glogging.Logger):
         found = super().atoms(*args, **kwargs).items()
         return {name: without_controls(value) if isinstance(value, str) else value for name, value in found}
 
+    def reopen_files(self) -> None:
+        """Goes on with the file that has the name of the access log now. If it can't be opened, the one of before stays in use."""
+        for handler in self.access_log.handlers:
+            if isinstance(handler, logging.FileHandler):
+                try:
+                    before, handler.stream = handler.stream, handler._open()
+                except OSError as error:
+                    self.warning("the access log stays the one of before: %s", error)
+                else:
+                    with contextlib.suppress(OSError):  # a line that can't be written is lost
+                        before.close()
+
     def info(self, msg: str, *args: Any, **kwargs: Any) -> None:
         if kwargs.get("exc_info"):
             self.exception(msg, *args)
@@ -95,6 +109,10 @@ class Master(gunicorn.arbiter.Arbiter):
                 if os.waitstatus_to_exitcode(status) in (self.WORKER_BOOT_ERROR, self.APP_LOAD_ERROR):
                     raise HaltServer("a worker can't be started")
 
+    def init_signals(self) -> None:
+        super().init_signals()
+        signal.pthread_sigmask(signal.SIG_UNBLOCK, LATER)
+
     def manage_workers(self) -> None:
         self.reap_workers()  # also one that has ended before it was known
         if self.app.look():
@@ -111,12 +129,12 @@ class Master(gunicorn.arbiter.Arbiter):
 
     def spawn_worker(self) -> Any:
         """Starts a worker, which gets a signal that comes meanwhile when it can handle it."""
-        signal.pthread_sigmask(signal.SIG_BLOCK, ENDS)
+        signal.pthread_sigmask(signal.SIG_BLOCK, HANDLED)
         try:
             return super().spawn_worker()
         finally:
             if os.getpid() == self.pid:
-                signal.pthread_sigmask(signal.SIG_UNBLOCK, ENDS)
+                signal.pthread_sigmask(signal.SIG_UNBLOCK, HANDLED)
 
     def stop(self, graceful: bool = True) -> None:
         gunicorn.systemd.sd_notify("STOPPING=1", self.log)
@@ -172,7 +190,8 @@ class Worker(gunicorn.workers.sync.SyncWorker):
     def init_signals(self) -> None:
         super().init_signals()
         signal.siginterrupt(signal.SIGTERM, True)  # else it is handled after a read or write only
-        signal.pthread_sigmask(signal.SIG_UNBLOCK, ENDS)
+        signal.signal(signal.SIGHUP, signal.SIG_IGN)  # it is for the master, and may be sent to all
+        signal.pthread_sigmask(signal.SIG_UNBLOCK, HANDLED)
 
     def handle_exit(self, sig: int, frame: Optional[FrameType]) -> None:
         """Ends after the present answer. No connection waits for this worker then.
