@@ -1,4 +1,5 @@
 """Queries over indexes."""
+import gzip
 import json
 import os
 import pathlib
@@ -114,6 +115,38 @@ class Queries(Case):
         os.chdir(self.folder)
         self.addCleanup(os.chdir, folder)
         self.assertEqual(2, self.open(pathlib.Path("-index")).count(ALL))
+
+    def test_a_file_that_is_no_index_is_named_when_it_is_opened(self) -> None:
+        row = "com,example)/ 20160101000000 http://example.com/ text/html 200 AAA - - 100 0 a.warc.gz\n"
+        kinds = {
+            (SAMPLES / "wget.warc").read_bytes(): "It is a WARC file",
+            gzip.compress(lines(1).encode()): "It is compressed by gzip",
+            f" CDX N b a m s k r M S V g\n{row}".encode(): "It is a CDX file: ",
+            row.encode(): "It seems to be a CDX file without a header",
+            row.replace(" - - ", " ").encode(): "It seems to be a CDX file without a header",
+            b'{"url": "http://example.com/"}\n': "Its first line is a JSON object alone",
+            b"<html>": "It seems to be an HTML or XML file",
+        }
+        for content, said in kinds.items():
+            path = self.folder / "index"
+            path.write_bytes(content)
+            fault = self.raises(faults.BadLine, self.open, self.put(lines(2), "good"), path)
+            self.assertEqual((str(path), 0), (fault.file, fault.offset))
+            self.assertIn(f"BadLine at 0 ({said}", str(fault))
+        for text in ("", LINE % ("a" * 5000, "a", 1, 1), 'com,example)/ 20160101000000   {"a": 1, "offset": "1", "filename": "a"}\n'):
+            self.open(self.put(text))
+
+    def test_what_is_in_the_folder_of_an_index_names_it(self) -> None:
+        (self.folder / "all.d/states/1").mkdir(parents=True)
+        (self.folder / "all.d/current").symlink_to("states/1")
+        self.put("{\n}\n", "all.d/states/1/manifest.json")
+        for name, kind in (
+            ("states/1/manifest.json", faults.BadLine),
+            ("current/manifest.json", faults.BadLine),
+            ("current", faults.CannotOpen),
+        ):
+            fault = self.raises(kind, self.open, self.folder / "all.d" / name)
+            self.assertTrue(fault.advice.endswith(f"in the folder of an index: open {self.folder}/all.d"), fault.advice)
 
 
 class Values(Case):

@@ -1,24 +1,20 @@
 """Queries over indexes, by runs of `warcdx serve` that are kept."""
 import contextlib
-import fcntl
 import itertools
-import os
 import queue
-import stat
 import weakref
 from collections.abc import Callable, Iterable, Iterator, Sequence
 from typing import Any, NoReturn, Optional, Union
 
 from .asked import Asked, parameter_of
 from .errors import Refused, expect_type, number_of
-from .faults import Read, cannot_open
 from .fields import FIELDS
+from .index_files import open_files
 from .program import Path, find_program, operands
 from .query import MOST_LIMIT, Capture, Page, Query, RowPage, Texts, Value, fits, in_bytes, length_of, one_line, rows_query, split_rows
 from .reported import refused
-from .serve import Files, Serve
+from .serve import Serve
 from .stamps import Moment
-from .states import runs_of
 
 PAGE_SIZE = 5000  # captures that an iterator holds at a time
 _VALUES: dict[str, Callable[[str], object]] = {"length": length_of, "offset": int}
@@ -49,8 +45,8 @@ class Index:
     Any other parameter of docs/QUERY.md may be given by its name there, such as `collapse`, `has`, `key` or
     `matchType`. One that is a word of Python is written `from_` or `is_`. One that may be repeated takes a list.
 
-    The constructor raises `faults.CannotOpen` if an index can't be opened, and `faults.Read` if it is a pipe. A query that the program refuses
-    raises the class of `warcdx.refusals` that is named as the program names the cause, and an index that is at
+    The constructor raises `faults.CannotOpen` if an index can't be opened, `faults.Read` if it is a pipe, and
+    `faults.BadLine` if a file isn't an index, with what it is as its `advice`. A query that the program refuses raises the class of `warcdx.refusals` that is named as the program names the cause, and an index that is at
     fault one of `warcdx.faults`. A query whose program ends before its reply is whole is asked once more, and
     raises ProgramEnded if that ends too. After each of these the next query is answered as usual.
 
@@ -81,7 +77,7 @@ class Index:
             raise ValueError("no index is given")
         self._program = find_program(program)
         with contextlib.ExitStack() as stack:
-            self._files = _open_files(names, stack)
+            self._files = open_files(names, self._program, stack)
             self._close_files = weakref.finalize(self, stack.pop_all().close)
         self.seconds = seconds
         self.most = most
@@ -339,39 +335,3 @@ def _line_of(query: str) -> bytes:
     """Returns a query text as the line that is sent for it."""
     expect_type("query", query, str, "a text")
     return in_bytes(one_line(query))
-
-
-def _open_files(indexes: Sequence[str], stack: contextlib.ExitStack) -> Files:
-    """Opens the files of indexes. Those of a folder stay open, because updates remove them. Raises `faults.CannotOpen`."""
-    names: list[str] = []
-    operands: list[str] = []
-    descriptors: list[int] = []
-    for index in indexes:
-        is_folder = os.path.isdir(index)
-        for path in runs_of(index) if is_folder else [index]:
-            names.append(path)
-            descriptor = _open(path)
-            if is_folder:
-                # If a standard stream of this process is closed, the file has its number. The program has a pipe there.
-                descriptor, low = fcntl.fcntl(descriptor, fcntl.F_DUPFD_CLOEXEC, 3), descriptor
-                os.close(low)
-                stack.callback(os.close, descriptor)
-                descriptors.append(descriptor)
-                operands.append(f"/dev/fd/{descriptor}")
-            else:
-                os.close(descriptor)
-                operands.append(path)
-    return Files(tuple(names), tuple(operands), tuple(descriptors))
-
-
-def _open(path: str) -> int:
-    try:
-        descriptor = os.open(path, os.O_RDONLY | os.O_NONBLOCK | os.O_CLOEXEC)
-    except (OSError, ValueError) as error:  # ValueError: such as a path with a NUL
-        raise cannot_open(path, getattr(error, "errno", None)) from error
-    if stat.S_ISFIFO(os.fstat(descriptor).st_mode):  # the program would wait for a writer, or hasn't the descriptor of the path
-        os.close(descriptor)
-        fault = Read("Read", path)
-        fault.advice = "An index is a file, because it is searched: write what a pipe has to a file first."
-        raise fault
-    return descriptor

@@ -51,8 +51,20 @@ def runs_of(folder: Path) -> list[str]:
         except OSError as error:  # a state that is removed meanwhile isn't there: `current` leads to another one
             reason = errno.EISDIR if not os.path.lexists(current) else error.errno or reason
     fault = cannot_open(os.fspath(folder), reason)
-    fault.advice = "a folder is an index if warcdx-update has made it" if reason == errno.EISDIR else ""
+    if reason == errno.EISDIR:
+        index = around(folder)
+        fault.advice = f"it is in the folder of an index: open {index}" if index else "a folder is an index if warcdx-update has made it"
     raise fault
+
+
+def around(path: Path) -> Optional[str]:
+    """Returns the folder of an index that has this file or folder in it, or None."""
+    above = os.path.abspath(path)
+    for _ in range(3):  # as of `states/1/manifest.json`
+        above = os.path.dirname(above)
+        if is_link(f"{above}/{CURRENT}"):
+            return above
+    return None
 
 
 def files_of(index: Path) -> list[str]:
