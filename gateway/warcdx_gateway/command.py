@@ -33,11 +33,12 @@ from .checking import NotInOrder
 from .settings import MOST_WORKERS, BadSettings, CollectionSettings, Settings, checked, read_settings
 
 NAME = "warcdx-gateway"
+INSTEAD = {"-c --config --settings": "write SETTINGS alone"}
 
 
 def read_arguments(arguments: Optional[Sequence[str]]) -> Settings:
     """Returns the settings of the command line. Raises BadSettings."""
-    parser = command.Parser(NAME, __doc__)
+    parser = command.Parser(NAME, __doc__, INSTEAD)
     parser.add_argument("settings", metavar="SETTINGS", nargs="?", help="a file in TOML")
     parser.add_argument("--indexes", metavar="INDEX", nargs="+", help="the indexes of one collection")
     parser.add_argument("--archives", metavar="FOLDER", nargs="+", default=[], help="the folders of its archives")

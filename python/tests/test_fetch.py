@@ -198,7 +198,7 @@ class Fetching(Case):
         whys = [
             f"{self.folder}/pipe.warc: a pipe can be read only once, by list, verify or index; save it to a file",
             f"{self.folder}/rotten.warc: Read",
-            f"{self.folder}/nosuch.warc: cannot open (No such file or directory)",
+            f"{self.folder}/nosuch.warc: cannot open (No such file or directory); --archives FOLDER names the folder below which it has this path",
         ]
         said = [f"warcdx-fetch: {time} {URL}: {why}" for time in ("20160919172024", "20180102030405") for why in whys]
         for output in ("all", "all.warc.gz"):

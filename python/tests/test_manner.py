@@ -162,17 +162,64 @@ class Messages(Runs):
 
     def test_an_option_that_is_misspelled(self) -> None:
         for words, wanted in (
-            (("verify", "--job", "4", "a"), "unrecognized arguments: --job; a similar option is --jobs; 'warcdx-verify --help'"),
-            (("fetch", "--arcives=a", "b"), "unrecognized arguments: --arcives=a; a similar option is --archives; '"),
-            (("update", "--zzz", "a", "b"), "unrecognized arguments: --zzz; '"),
+            (("verify", "--job", "4", "a"), "unknown option --job; a similar one is --jobs; 'warcdx-verify --help'"),
+            (("fetch", "--arcives=a", "b"), "unknown option --arcives; a similar one is --archives; '"),
+            (("update", "--Dryrun", "a", "b"), "unknown option --Dryrun; a similar one is --dry-run; '"),
+            (("cdx", "to", "--zzz", "a"), "unknown option --zzz; there are --output, --program; '"),
+            (("cdx", "to", "-1"), "unknown option -1; there are --output, --program; '"),
         ):
-            status, found, said = self.run_on_program(*words)
-            self.assertEqual((2, "", 1), (status, found, said.count("\n")), words)
-            self.assertIn(wanted, said)
+            self.expect_usage_error(wanted, *words)
+
+    def test_an_option_that_other_tools_have(self) -> None:
+        """The words that are similar by their letters alone aren't named."""
+        for words, wanted in (
+            (("update", "-j4", "a", "b"), "unknown option -j; write --jobs N; '"),
+            (("update", "--workers", "4", "a", "b"), "unknown option --workers; write --jobs N; '"),
+            (("update", "-n", "a", "b"), "unknown option -n; write --dry-run; '"),
+            (("update", "-o", "b", "a"), "unknown option -o; INDEX is the second argument; '"),
+            (("update", "--prune", "a", "b"), "unknown option --prune; write --remove N|N%|all; '"),
+            (("update", "--verbose", "a", "b"), "unknown option --verbose; what is done is printed unless --quiet is given; '"),
+            (("verify", "-q", "a"), "unknown option -q; write --quiet; '"),
+            (("verify", "--recursive", "a"), "unknown option --recursive; name the archives, such as FOLDER/*.warc.gz; '"),
+            (("fetch", "-O", "a", "b"), "unknown option -O; write -o FILE; '"),
+            (("fetch", "--from=2016", "a"), "unknown option --from; with --all it is a parameter of QUERY, "),
+            (("cdx", "--from", "a"), "unknown option --from; write 'from' or 'to' without --; '"),
+        ):
+            self.expect_usage_error(wanted, *words)
+        status, found, said = self.run_command(sys.executable, GATEWAY, "-t", "4", "--indexes", "a")
+        self.assertEqual((2, ""), (status, found))
+        self.assertIn("unknown option -t; write --workers WORKERS; '", said)
+
+    def test_a_value_is_named_and_what_it_may_be(self) -> None:
+        for words, wanted in (
+            (("update", "--jobs", "auto", "a", "b"), "--jobs: a number from 1 to 999, and not 'auto'; '"),
+            (("update", "--types", "html", "a", "b"), ", each once at most, with ',' between, and not 'html'; '"),
+            (("update", "--remove", "ALL", "a", "b"), "a number of archives, 0% to 100% of them, or all, and not 'ALL'; '"),
+            (("update", "--recursive=yes", "a", "b"), " 'yes'; write --recursive; '"),
+            (("update", "a", "b.cdxj.gz"), "an index isn't compressed: leave out the .gz of INDEX; '"),
+            (("update", "a"), ": INDEX; write warcdx-update [OPTION..] FOLDER INDEX; '"),
+            (("verify", "a", "--jobs"), "argument --jobs: expected one argument; write --jobs N; '"),
+            (("verify",), "FILE; write warcdx-verify [OPTION..] FILE..; '"),
+            (("fetch", "--index", "a", "--at", "today", "b"), "or 2016-09-19, or 14 digits, and not 'today'; '"),
+            (
+                ("fetch", "--index", "a", "--all", "-o", "b.wacz", "c"),
+                "the name of a new archive ends with .warc.gz, and not as 'b.wacz'; '",
+            ),
+            (("fetch", "--index", "a"), "URL; write warcdx-fetch [OPTION..] URL or warcdx-fetch --all [OPTION..] -o OUTPUT QUERY; '"),
+            (("cdx", "a.cdx"), "'a.cdx' is no command: write 'to' before indexes, and 'from' before CDX files; '"),
+            (("cdx", "to", "-o", "a.cdx.GZ"), "leave out its .gz, or write | gzip > FILE in place of -o; '"),
+        ):
+            self.expect_usage_error(wanted, *words)
+
+    def expect_usage_error(self, wanted: str, *words: str) -> None:
+        status, found, said = self.run_on_program(*words)
+        self.assertEqual((2, "", 1), (status, found, said.count("\n")), words)
+        self.assertIn(wanted, said)
+        self.assertEqual([], list(self.folder.iterdir()))
 
     def test_what_precedes_is_missing(self) -> None:
         for words, wanted in (
-            (("fetch", "http://example.com/", "a.cdxj"), "give one URL; an index follows --index"),
+            (("fetch", "http://example.com/", "a.cdxj"), "give one URL, and not 'a.cdxj' too; an index follows --index"),
             (("fetch", "--index", "a.cdxj", ""), "URL: the name is empty"),
             (("cdx", "a.cdx"), "write 'to' before indexes, and 'from' before CDX files"),
         ):
@@ -202,7 +249,18 @@ class Messages(Runs):
     def test_several_archives_for_one_folder(self) -> None:
         status, found, said = self.run_on_program("update", "a.warc", "b.warc", "all.cdxj")
         self.assertEqual((2, ""), (status, found))
-        self.assertIn("give one FOLDER, whose archives are found, and one INDEX", said)
+        self.assertIn("give one FOLDER, whose archives are found, and one INDEX, and not 'all.cdxj' too", said)
+
+    def test_a_folder_that_is_not_there(self) -> None:
+        for folder, wanted in (
+            ("nosuch", "; FOLDER comes first, and INDEX after it"),
+            ("data*", "; no file has a name of this pattern"),
+            ("http://a/b", "; it is a URL, and only files are read: fetch it first"),
+        ):
+            status, found, said = self.run_on_program("update", folder, "all.cdxj.d")
+            self.assertEqual((3, ""), (status, found))
+            self.assertEqual(f"warcdx-update: all.cdxj.d: {folder}: No such file or directory{wanted}\n", said)
+        self.assertEqual([], list(self.folder.iterdir()))
 
     def test_an_archive_for_a_folder(self) -> None:
         (self.folder / "a.warc").touch()

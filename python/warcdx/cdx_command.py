@@ -45,6 +45,7 @@ from .states import files_of
 
 NAME = "warcdx-cdx"
 COMMANDS = ("to", "from")
+INSTEAD = {"-s --sort": "LC_ALL=C sort puts the lines in order", "--from --to": "write 'from' or 'to' without --"}
 
 
 class NotAll(Exception):
@@ -52,18 +53,21 @@ class NotAll(Exception):
 
 
 def read_arguments(arguments: Optional[Sequence[str]]) -> argparse.Namespace:
-    parser = Parser(NAME, __doc__)
+    parser = Parser(NAME, __doc__, INSTEAD)
     parser.add_output("FILE", "write this new file (default: standard output)")
     parser.add_argument("--program", default="warcdx", metavar="PROGRAM", help="the program (%(default)s)")
     parser.add_argument("command", type=command_of, metavar="to|from", help="what to write: CDX files, or lines of an index")
     help_files = "an index for `to`, a CDX file for `from`; - is standard input"
     parser.add_argument("files", nargs="*", default=(), type=name_of_file, metavar="FILE", help=help_files)
-    return parser.parse(arguments)
+    given = parser.parse(arguments)
+    if (given.output or "").lower().endswith(".gz"):
+        parser.error("FILE isn't compressed: leave out its .gz, or write | gzip > FILE in place of -o")
+    return given
 
 
 def command_of(text: str) -> str:
     if text not in COMMANDS:
-        raise argparse.ArgumentTypeError("write 'to' before indexes, and 'from' before CDX files")
+        raise argparse.ArgumentTypeError(f"'{text}' is no command: write 'to' before indexes, and 'from' before CDX files")
     return text
 
 

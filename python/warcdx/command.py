@@ -1,7 +1,6 @@
 """What the commands of this package share: their arguments, output and messages, and how a signal ends them."""
 import argparse
 import contextlib
-import difflib
 import errno
 import io
 import itertools
@@ -41,10 +40,32 @@ TASKS = {
 }
 
 
-class Parser(argparse.ArgumentParser):
-    """Arguments of a command, whose description has its usage. A usage error is one line."""
+# The words by which people who know other tools ask for an option.
+ELSEWHERE = {
+    "--address": "-b --bind --listen",
+    "--at": "--closest --date --time --timestamp",
+    "--dry-run": "-n --no-act --simulate",
+    "--index": "-i --cdx --cdxj",
+    "--indexes": "-i --cdx --cdxj",
+    "--jobs": "-j -t --parallel --processes --threads --workers",
+    "-o": "-O -P --directory-prefix --out --output-dir --report",
+    "--port": "-p",
+    "--quiet": "-q --silent",
+    "--record": "--headers --warc",
+    "--recursive": "-r -R",
+    "--remove": "--delete --prune",
+    "--resume": "-c --continue",
+    "--workers": "-t --processes --threads",
+}
 
-    def __init__(self, prog: str, description: Optional[str] = None) -> None:
+
+class Parser(argparse.ArgumentParser):
+    """Arguments of a command, whose description has its usage. A usage error is one line.
+
+    `instead` has words that are no options of the command, with a space between, and what is said of them.
+    """
+
+    def __init__(self, prog: str, description: Optional[str] = None, instead: Optional[dict[str, str]] = None) -> None:
         others = "".join(f"  {name:18} {task}\n" for name, task in TASKS.items() if name != prog)
         super().__init__(
             prog,
@@ -54,6 +75,7 @@ class Parser(argparse.ArgumentParser):
             formatter_class=argparse.RawDescriptionHelpFormatter,
             allow_abbrev=False,
         )
+        self._instead = {word: said for words, said in (instead or {}).items() for word in words.split()}
         self._negative_number_matcher = re.compile("(?!)")  # so that `-1` is no file
         self.add_argument("-V", "--version", action="version", version=f"{prog} {__version__}", help="print the version")
 
@@ -72,28 +94,60 @@ class Parser(argparse.ArgumentParser):
         return self.parse_args(self._in_order(words))
 
     def _in_order(self, words: Sequence[str]) -> Sequence[str]:
-        """Returns the words with all files in one row, as argparse needs them.
+        """Returns the words with all files in one row, as argparse needs them. An option that isn't known is a usage error.
 
         Its own parse_intermixed_args raises another exception for one that a signal raises within.
         """
-        if any(action.nargs == argparse.ONE_OR_MORE and action.option_strings for action in self._actions):
-            return words  # an option that takes files takes all that follow it
         rest, files, options = iter(words), list[str](), list[str]()
         for word in rest:
             if word == "--":
-                return [*options, word, *files, *rest]
+                files, options = [], [*options, word, *files, *rest]
+                break
             is_option = word.startswith("-") and word != "-"
+            if is_option:
+                self._expect_known(word.partition("=")[0] if word.startswith("--") else word[:2])
             (options if is_option else files).append(word)
             action = self._option_string_actions.get(word)
             if action is not None and action.nargs is None:
                 options.extend(itertools.islice(rest, 1))
+        if any(action.nargs == argparse.ONE_OR_MORE and action.option_strings for action in self._actions):
+            return words  # an option that takes files takes all that follow it
         return [*files, *options]
 
+    def _expect_known(self, option: str) -> None:
+        if option not in self._option_string_actions:
+            self.error(f"unknown option {option}; {self._advice_on_option(option)}")
+
+    def _advice_on_option(self, option: str) -> str:
+        """Returns what to write in place of an option that isn't known."""
+        known = {name.lstrip("-"): name for name in self._option_string_actions if name.startswith("--")}
+        if option in self._instead:
+            return self._instead[option]
+        for name, words in ELSEWHERE.items():
+            if option in words.split() and name in self._option_string_actions:
+                return f"write {self._form_of(name)}"
+        import difflib  # which only this needs
+
+        near = difflib.get_close_matches(option.lstrip("-").lower(), known, 1)
+        others = [name for name in known.values() if name not in ("--help", "--version")]
+        return f"a similar one is {known[near[0]]}" if near else f"there are {', '.join(others)}"
+
+    def _form_of(self, name: str) -> str:
+        """Returns an option with its value, if it has one."""
+        action = self._option_string_actions[name]
+        return name if action.nargs == 0 else f"{name} {action.metavar or action.dest.upper()}"
+
+    def _advice_on_error(self, message: str) -> str:
+        """Returns what to write after an error that argparse has found, or an empty text."""
+        if message.startswith(("the following arguments are required", "unrecognized arguments")):
+            usage = re.findall(f"^(?:usage:|      ) ({re.escape(self.prog)} .*)$", self.description or "", re.MULTILINE)
+            return f"; write {' or '.join(usage)}" if usage else ""
+        found = re.match("argument (?:-./)?(--[a-z-]+): (?:expected|ignored)", message)
+        return f"; write {self._form_of(found[1])}" if found else ""
+
     def error(self, message: str) -> NoReturn:
-        found = re.match("unrecognized arguments: (--[^ =]+)", message)
-        near = difflib.get_close_matches(found[1], self._option_string_actions, 1) if found else ()
-        hint = f"; a similar option is {near[0]}" if near else ""
-        report(self.prog, f"error: {printable(message)}{hint}; '{self.prog} --help' has the arguments")
+        said = f"{printable(message)}{self._advice_on_error(message)}"
+        report(self.prog, f"error: {said}; '{self.prog} --help' has the arguments")
         sys.exit(USAGE)
 
 
@@ -116,7 +170,7 @@ def number_from(least: int, most: int) -> Callable[[str], int]:
 
     def number_of(text: str) -> int:
         if not _NUMBER.fullmatch(text) or not least <= int(text) <= most:
-            raise argparse.ArgumentTypeError(f"a number from {least} to {most}")
+            raise argparse.ArgumentTypeError(f"a number from {least} to {most}, and not '{text}'")
         return int(text)
 
     return number_of
@@ -218,15 +272,17 @@ def line_of(fault: Fault, advice: str = "") -> str:
     """Returns what is said of a fault: its file and its offset, if they are known, the cause, and what to do."""
     file = "" if fault.file is None else f"{printable(fault.file)}: "
     place = "" if fault.offset is None else f" {fault.offset}"
-    what = "cannot open" if isinstance(fault, CannotOpen) else fault.name + place
+    is_unopened = isinstance(fault, CannotOpen)
+    what = "cannot open" if is_unopened else fault.name + place
     reason = f" ({fault.reason})" if fault.reason else ""
-    why = advice or fault.advice or isinstance(fault, CannotOpen) and _advice_on_name(fault)
-    return f"{file}{what}{reason}" + (f"{';' if isinstance(fault, CannotOpen) else ':'} {why}" if why else "")
+    why = advice or fault.advice
+    if isinstance(fault, CannotOpen) and fault.file is not None and fault.system_error == errno.ENOENT:
+        why = why or advice_on_name(fault.file)
+    return f"{file}{what}{reason}" + (f"{';' if is_unopened else ':'} {why}" if why else "")
 
 
-def _advice_on_name(fault: CannotOpen) -> str:
+def advice_on_name(name: str) -> str:
     """Returns what the name is of a file that isn't there, if it looks like a URL or a pattern."""
-    name = fault.file if fault.file is not None and fault.system_error == errno.ENOENT else ""
     if "://" in name:
         return "it is a URL, and only files are read: fetch it first"
     return "no file has a name of this pattern" if any(each in name for each in "*?[") else ""

@@ -60,6 +60,14 @@ from .refusals import RepeatedParameter
 
 NAME = "warcdx-fetch"
 ARCHIVE = ".warc.gz"
+WAY = "; --archives FOLDER names the folder below which it has this path"
+OTHERS = (".gz", ".tar", ".wacz", ".warc", ".zip", ".zst")  # endings of files that aren't written
+INSTEAD = {
+    "-u --url": "write URL alone",
+    "--from --to --limit --filter --match --collapse --fl": "with --all it is a parameter of QUERY, as in 'url=example.com/*&limit=5'",
+    "--body --payload": "without --record the body of the page is written",
+    "-v --verbose": "with --all, a line for each file is printed unless --quiet is given",
+}
 _MOST_NAME = 150  # characters of a file's name that are of its URL
 _UNSAFE = re.compile("[^A-Za-z0-9._-]+")
 _ENDING = re.compile(r"\.[A-Za-z0-9]{1,8}")
@@ -67,7 +75,7 @@ _PARAMETERS = re.compile("[A-Za-z]+=")
 
 
 def read_arguments(arguments: Optional[Sequence[str]]) -> argparse.Namespace:
-    parser = Parser(NAME, __doc__)
+    parser = Parser(NAME, __doc__, INSTEAD)
     add = parser.add_argument
     add("--index", action="append", default=[], type=name_on_disk, metavar="INDEX", help="an index of the archives; may be repeated")
     add("--archives", action="append", default=[], type=name_on_disk, metavar="FOLDER", help="a folder with the archives; may be repeated")
@@ -83,15 +91,16 @@ def read_arguments(arguments: Optional[Sequence[str]]) -> argparse.Namespace:
     add("more", nargs="*", default=(), help=argparse.SUPPRESS)
     given = parser.parse(arguments)
     if given.more:
-        parser.error("give one URL; an index follows --index, and a folder of archives --archives")
+        way = "an index follows --index, a folder of archives --archives, and & the parameters of a query, in quotes"
+        parser.error(f"give one URL, and not '{given.more[0]}' too; {way}")
     given.index = given.index or list(filter(None, [os.environ.get("WARCDX_INDEX")]))
     if not given.index:
         parser.error("give --index INDEX, an index of the archives, as 'warcdx index' writes it")
     given.archives = given.archives or [os.environ.get("WARCDX_ARCHIVES") or os.path.dirname(os.path.abspath(given.index[0]))]
     if given.all and given.output in (None, STANDARD):
         parser.error("--all needs -o OUTPUT, a new folder or a new .warc.gz")
-    if given.all and given.output.lower().endswith((".warc", ARCHIVE)) and not given.output.endswith(ARCHIVE):
-        parser.error("the name of a new archive ends with .warc.gz")
+    if given.all and given.output.lower().endswith(OTHERS) and not given.output.endswith(ARCHIVE):
+        parser.error(f"the name of a new archive ends with .warc.gz, and not as '{given.output}'")
     if not given.all and (given.output or "").lower().endswith(ARCHIVE):
         parser.error("only --all writes a .warc.gz; without it, a record isn't compressed")
     if given.all and given.at is not None:
@@ -105,7 +114,7 @@ def _moment_of(text: str) -> object:
     try:
         return moment_of(text)
     except (OverflowError, ValueError):
-        raise argparse.ArgumentTypeError("TIME is a date, such as 2016, 201609 or 2016-09-19, or 14 digits") from None
+        raise argparse.ArgumentTypeError(f"TIME is a date, such as 2016, 201609 or 2016-09-19, or 14 digits, and not '{text}'") from None
 
 
 def fetch(given: argparse.Namespace, output: BinaryIO) -> int:
@@ -208,7 +217,8 @@ def say(capture: Capture, error: Error) -> int:
     is_unread = isinstance(error, (CannotOpen, Read))  # which others needn't be
     if isinstance(error, FAILURES) and not is_unread or not isinstance(error, (Fault, NoArchive, Unreadable)):
         raise error
-    report(NAME, f"{capture.timestamp} {printable(capture.original)}: {reason_of(error)}")
+    way = WAY if isinstance(error, CannotOpen) else ""
+    report(NAME, f"{capture.timestamp} {printable(capture.original)}: {reason_of(error)}{way}")
     return FAILED if is_unread else FAULTY
 
 
@@ -220,7 +230,7 @@ def line_about(fault: Fault, given: argparse.Namespace) -> str:
     """Returns what is said of a fault that ends the command."""
     advice = "" if fault.file is None else advice_on(fault, fault.file, given.program)
     is_archive = isinstance(fault, CannotOpen) and fault.file not in operands(given.index)
-    return line_of(fault, advice) + ("; --archives FOLDER names the folder below which it has this path" if is_archive else "")
+    return line_of(fault, advice) + (WAY if is_archive else "")
 
 
 def refusal_of(refused: Refused, given: argparse.Namespace) -> str:

@@ -44,7 +44,7 @@ from collections import Counter
 from collections.abc import Sequence
 from typing import BinaryIO, Optional
 
-from .command import FAILED, Parser, failure, name_on_disk, number_from, printable, report, run
+from .command import FAILED, Parser, advice_on_name, failure, name_on_disk, number_from, printable, report, run
 from .errors import Error
 from .files import is_in
 from .program import PACKED, find_packed_program
@@ -63,10 +63,15 @@ USUAL = TYPES[:3]
 LARGE = 1 << 30  # bytes of one file that is said to be large
 CONSEQUENCES = {Action.KEPT: "; the index keeps its captures", Action.LEFT_OUT: "; left out"}
 _REMOVAL = re.compile("(0|[1-9][0-9]{0,17})(%?)")
+INSTEAD = {
+    "-o --output": "INDEX is the second argument",
+    "-s --sort": "an index is always in order",
+    "-v --verbose": "what is done is printed unless --quiet is given",
+}
 
 
 def read_arguments(arguments: Optional[Sequence[str]]) -> argparse.Namespace:
-    parser = Parser(NAME, __doc__)
+    parser = Parser(NAME, __doc__, INSTEAD)
     workers = parser.add_mutually_exclusive_group()
     add = parser.add_argument
     add("--recursive", action="store_true", help="also index the archives in the folders below FOLDER")
@@ -99,14 +104,18 @@ def read_arguments(arguments: Optional[Sequence[str]]) -> argparse.Namespace:
     add("more", nargs="*", default=(), help=argparse.SUPPRESS)
     given = parser.parse(arguments)
     if given.more:
-        parser.error("give one FOLDER, whose archives are found, and one INDEX")
+        parser.error(f"give one FOLDER, whose archives are found, and one INDEX, and not '{given.more[0]}' too")
+    if given.index.lower().endswith(".gz"):
+        parser.error("an index isn't compressed: leave out the .gz of INDEX")
     return given
 
 
 def types_of(text: str) -> tuple[str, ...]:
     types = text.split(",")
     if len(set(types)) < len(types) or not set(types) <= set(TYPES):
-        raise argparse.ArgumentTypeError(f"types are {', '.join(TYPES[:-1])} and {TYPES[-1]}, each once at most, with ',' between")
+        raise argparse.ArgumentTypeError(
+            f"types are {', '.join(TYPES[:-1])} and {TYPES[-1]}, each once at most, with ',' between, and not '{text}'"
+        )
     return tuple(each for each in TYPES if each in types)
 
 
@@ -115,7 +124,7 @@ def removal_of(text: str) -> Removal:
         return Removal(100, True)
     found = _REMOVAL.fullmatch(text)
     if found is None or found[2] and int(found[1]) > 100:
-        raise argparse.ArgumentTypeError("a number of archives, 0% to 100% of them, or all")
+        raise argparse.ArgumentTypeError(f"a number of archives, 0% to 100% of them, or all, and not '{text}'")
     return Removal(int(found[1]), bool(found[2]))
 
 
@@ -134,7 +143,7 @@ def update(given: argparse.Namespace, output: BinaryIO) -> int:
     is_folder = not given.single and (os.path.isdir(given.index) or given.index.endswith((".d", "/")))
     store = Store(given.index if is_folder else f"{os.path.realpath(given.index)}.d")
     single = None if is_folder else Single(store, given.index)
-    expect_usable(settings, store)
+    expect_usable(given.folder, settings, store)
     program = program_of(given)
     work = Update(settings, store, single, program, Merging(given.ratio, given.compact), progress_of(given))
     if given.dry_run:
@@ -147,14 +156,23 @@ def update(given: argparse.Namespace, output: BinaryIO) -> int:
     return work.run(given.remove, workers, functools.partial(say, given, output))
 
 
-def expect_usable(settings: Settings, store: Store) -> None:
-    """Raises CannotUpdate if FOLDER is a file, the archives are in the folder of the index, or it is among them."""
+def expect_usable(name: str, settings: Settings, store: Store) -> None:
+    """Raises CannotUpdate if FOLDER isn't there or is a file, the archives are in the folder of the index, or it is among them."""
+    try:
+        os.stat(settings.folder)
+    except FileNotFoundError as error:
+        why = advice_on_name(name) or "FOLDER comes first, and INDEX after it"
+        raise CannotUpdate(f"{name}: {error.strerror}; {why}") from None
+    except OSError:
+        pass  # which is said when it is read
     if os.path.isfile(settings.folder):
         raise CannotUpdate(f"{settings.folder} is a file; FOLDER is the folder that has the archives")
     if is_in(settings.folder, store.folder):
-        raise CannotUpdate(f"the folder of archives is in the folder of the index, {store.folder}")
+        raise CannotUpdate(f"the folder of archives is in the folder of the index, {store.folder}; give another INDEX")
     if settings.recursive and is_in(store.folder, settings.folder):
-        raise CannotUpdate(f"with --recursive, the folder of the index, {store.folder}, can't be in the folder of archives")
+        raise CannotUpdate(
+            f"with --recursive, the folder of the index, {store.folder}, can't be in the folder of archives; give another INDEX"
+        )
 
 
 def print_plan(given: argparse.Namespace, work: Update, output: BinaryIO) -> None:

@@ -54,7 +54,7 @@ class Store:
         if {states.CURRENT, *states.FOLDERS} <= names:
             raise _changed_by_others(self._path) if os.path.lexists(self._path) else CannotUpdate(f"{self._path} is missing; {_WAY_OUT}")
         if names:
-            raise CannotUpdate(f"warcdx-update hasn't made all that is in {self.folder}, and doesn't use it")
+            raise CannotUpdate(f"warcdx-update hasn't made all that is in {self.folder}, and doesn't use it; give another INDEX")
         return False
 
     def _is_filled(self) -> bool:

@@ -59,10 +59,14 @@ from .verifying import Checked, check_archive
 from .workers import run_one_by_one, run_side_by_side
 
 NAME = "warcdx-verify"
+INSTEAD = {
+    "-r -R --recursive": "name the archives, such as FOLDER/*.warc.gz",
+    "-v --verbose": "there is a line for each record unless --quiet is given",
+}
 
 
 def read_arguments(arguments: Optional[Sequence[str]]) -> argparse.Namespace:
-    parser = Parser(NAME, __doc__)
+    parser = Parser(NAME, __doc__, INSTEAD)
     help_quiet = "print only records that differ and faults, and a summary if there are any"
     parser.add_argument("--quiet", action="store_true", help=help_quiet)
     parser.add_argument("--json", action="store_true", help="print each line as an object of JSON, with the name of the archive")
