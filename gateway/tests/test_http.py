@@ -353,6 +353,11 @@ class Starts(Case):
         said = "a process may open 64 files, and 129 are needed: raise the limit, as by ulimit -n"
         self.assertEqual((3, "", f"warcdx-gateway: {said}\n"), (run.returncode, run.stdout, run.stderr))
 
+    def test_what_is_no_address_is_named(self) -> None:
+        words = "--host", "localhost", "--port", "0", "--program", PROGRAM, "--indexes", str(self.put(SAMPLE))
+        for address, wanted in (("a..b", "a..b:0: not the name of a host"), ("", ":0: Name or service not known")):
+            self.assertEqual(f"warcdx-gateway: {wanted}\n", self.fails("--address", address, *words))
+
     def test_a_used_port_is_named(self) -> None:
         server = self.run_command("--port", "0", "--program", PROGRAM, "--indexes", str(self.put(SAMPLE)))
         self.assertIn("in use", self.fails("--port", str(server.address[1]), "--program", PROGRAM, "--indexes", str(self.folder / "index")))
@@ -366,6 +371,7 @@ class Starts(Case):
             (f"prt = 1\n{good}", "unknown setting 'prt'"),
             (f'port = "1"\n{good}', "'port' has to be a whole number"),
             (f"port = 70000\n{good}", "'port' has to be from 0"),
+            (f'metrics = "localhost:65536"\n{good}', "'metrics' has a port that has to be from 0 to 65535"),
             (f'main = "b"\n{good}', "'main' is not the name of a collection"),
             (f"exact = 2\n{good}", "unknown setting 'exact'"),
             (f"workers = 1\n{good}", "'workers' has to be 2 to 256"),

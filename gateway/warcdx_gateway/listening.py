@@ -1,5 +1,6 @@
 """The sockets that the server listens at, and the files that a process may open."""
 import contextlib
+import errno
 import resource
 import socket
 from collections.abc import Iterator
@@ -10,25 +11,27 @@ LEAST_FILES = 128  # beside indexes, without which requests would fail
 
 def bound(address: str, port: int) -> socket.socket:
     """Returns a socket with an address, which doesn't listen yet. Raises OSError."""
-    family, _, _, _, found = socket.getaddrinfo(address, port, type=socket.SOCK_STREAM, flags=socket.AI_PASSIVE)[0]
-    listener = socket.socket(family, socket.SOCK_STREAM)
-    try:
-        listener.setsockopt(socket.SOL_SOCKET, socket.SO_REUSEADDR, 1)
-        with naming(address, port):
+    with naming(address, port):
+        family, _, _, _, found = socket.getaddrinfo(address, port, type=socket.SOCK_STREAM, flags=socket.AI_PASSIVE)[0]
+        listener = socket.socket(family, socket.SOCK_STREAM)
+        try:
+            listener.setsockopt(socket.SOL_SOCKET, socket.SO_REUSEADDR, 1)
             listener.bind(found)
-    except OSError:
-        listener.close()
-        raise
+        except OSError:
+            listener.close()
+            raise
     return listener
 
 
 @contextlib.contextmanager
 def naming(address: str, port: int) -> Iterator[None]:
-    """Names the address in an OSError."""
+    """Names the address in an OSError, also for what can't be one."""
     try:
         yield
     except OSError as error:
         raise OSError(error.errno, f"{address}:{port}: {error.strerror}") from None
+    except UnicodeError:  # such as a name with an empty label
+        raise OSError(errno.EINVAL, f"{address}:{port}: not the name of a host") from None
 
 
 def shown_address(found: socket.socket) -> str:

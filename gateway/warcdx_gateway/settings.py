@@ -201,6 +201,8 @@ def checked(settings: Settings) -> Settings:
     wide = settings.wide or max(min(workers // 2, processors - 1), 1)
     settings = dataclasses.replace(settings, workers=workers, wide=wide)
     require(0 <= settings.port <= 65_535, "port", "has to be from 0 to 65535")
+    is_port = all(port <= 65_535 for _, port in settings.metrics_address)
+    require(is_port, "metrics", "has a port that has to be from 0 to 65535")
     require(2 <= settings.workers <= MOST_WORKERS, "workers", f"has to be 2 to {MOST_WORKERS}")
     require(1 <= wide < workers, "wide", "has to be 1 or more, and less than 'workers'")
     require(LEAST_MEMORY <= settings.memory <= MOST_MEMORY, "memory", f"has to be {LEAST_MEMORY} bytes or more, and at most {MOST_MEMORY}")
