@@ -13,10 +13,10 @@ INDEX/current leads to the runs of the index. Any other INDEX is one file, which
 each update writes anew, and INDEX.d is the folder.
 
 Only archives that are new or changed are indexed. An archive has changed if its
-size, inode, modification time or change time differs from the last run. Readers
-see the old index or the new one, and never a part. FOLDER, --recursive and
---types are those of the first run, and INDEX is replaced only if an earlier run
-has made it.
+size, inode, modification time or change time differs from the last update.
+Readers see the old index or the new one, and never a part. FOLDER, --recursive
+and --types are those of the first update, and INDEX is replaced only if an
+earlier one has made it.
 
 If archives are gone, the index keeps their captures, unless --remove lets that
 many leave it. An archive that is damaged is indexed up to the damage. If an
@@ -29,7 +29,7 @@ Examples:
   warcdx query 'url=*.example.com' all.cdxj.d/current/*.cdxj
 
 Exit status:
-  0  everything is indexed, but for faults that an earlier run has reported
+  0  everything is indexed, but for faults that an earlier update has reported
   1  an archive is newly damaged
   2  usage error
   3  an archive newly can't be read, archives are gone, INDEX can't be made, or
@@ -95,7 +95,7 @@ def read_arguments(arguments: Optional[Sequence[str]]) -> argparse.Namespace:
     add("--compact", action="store_true", help="merge all runs of the index into one")
     add("--ratio", type=number_from(2, 16), default=8, metavar="N", help="merge N runs of similar sizes, 2 to 16 (%(default)s)")
     add("--json", action="store_true", help="print a line of JSON about each archive")
-    add("--all-faults", action="store_true", help="report the faults too that an earlier run has reported")
+    add("--all-faults", action="store_true", help="report the faults too that an earlier update has reported")
     add("--quiet", action="store_true", help="print nothing but faults")
     add("--dry-run", action="store_true", help="print what would be indexed, removed and kept, and change nothing")
     add("--program", default="warcdx", metavar="PROGRAM", help="warcdx-gz, or a program in its folder (%(default)s)")

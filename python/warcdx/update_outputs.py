@@ -1,4 +1,4 @@
-"""The one file of an index, which warcdx-update replaces if an earlier run has made it."""
+"""The one file of an index, which warcdx-update replaces if an earlier update has made it."""
 import contextlib
 import os
 import stat
@@ -30,7 +30,7 @@ class Single:
         """Raises OSError, or CannotUpdate if there is a file that no run of the command has made as it is."""
         found = _known_by(self.path)
         if found is not None and self._store.known(found) is None:
-            raise CannotUpdate(f"no earlier run has made {self.path} as it is, and it isn't replaced: give another INDEX")
+            raise CannotUpdate(f"no earlier update has made {self.path} as it is, and it isn't replaced: give another INDEX")
 
     @property
     def is_current(self) -> bool:

@@ -26,7 +26,7 @@ sys.path.insert(0, str(pathlib.Path(__file__).resolve().parents[1]))
 from program import PACKED, ROOT, Report, add_program, find_packed_program, find_program, parser_of
 
 PAGES = (
-    "docs/COMMANDS.md", "docs/FAQ.md", "docs/OTHER_TOOLS.md", "docs/QUERY.md", "docs/RECORDS.md", "docs/VERIFY.md",
+    "docs/COMMANDS.md", "docs/FAQ.md", "docs/FOLDER.md", "docs/OTHER_TOOLS.md", "docs/QUERY.md", "docs/RECORDS.md", "docs/VERIFY.md",
 )  # fmt: skip
 BLOCK = re.compile(r"(?:^    .*\n|^\n(?=(?:\n)*    ))+", re.MULTILINE)
 COMMAND = re.compile(r"^\$ (.*)\n((?:(?!\$ ).*\n)*)", re.MULTILINE)

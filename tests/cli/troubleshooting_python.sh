@@ -101,7 +101,7 @@ shows "other types" "it was made with --types response,resource,revisit" update 
 
 row "\`is a file; FOLDER is the folder that has the archives\`"
 shows "an archive" "is a file; FOLDER is the folder that has the archives" update wget.warc locked
-row "\`the folder of archives is in the folder of the index,\`, \`with --recursive, the folder of the index,\`"
+row "\`the folder of archives is in the folder of the index,\`, \`with --recursive, the folder of the index,\`, \`can't be in the folder of archives; give another INDEX\`"
 shows "archives in the index" "the folder of archives is in the folder of the index," update locked.d locked
 shows "the index in the archives" "with --recursive, the folder of the index," update --recursive folder folder/all.cdxj
 

@@ -305,7 +305,7 @@ def another_file_is_not_replaced(program: pathlib.Path, folder: pathlib.Path) ->
     trial = Trial(program, folder)
     copy_sample("wget", trial.index)
     expect("status", trial.run(), 3)
-    line = f"warcdx-update: {trial.index}: no earlier run has made {trial.index} as it is, and it isn't replaced: give another INDEX"
+    line = f"warcdx-update: {trial.index}: no earlier update has made {trial.index} as it is, and it isn't replaced: give another INDEX"
     expect("line", trial.said, [line])
     expect("file", trial.index.read_bytes(), sample("wget"))
     expect("folder of the index", trial.store.exists(), False)
