@@ -36,10 +36,10 @@ PHRASES = re.compile(
     r"|(?:is|are) looked at|(?:is|are) gone through|is of no use|no good|by chance)\b",
     re.IGNORECASE,
 )
-# Pages that use the words of the code, and the manual pages that repeat the help of the programs. The gateway's are to come.
+# Pages that use the words of the code. The gateway's are to come.
 OTHER_PAGES = (
     "CONTRIBUTING.md", "bench/README.md", "bench/RESULTS.md", "docs/developers/ARCHITECTURE.md", "docs/proof/CONTRACTS.md", "docs/developers/DECISIONS.md", "docs/developers/LIBRARY.md",
-    "docs/proof/PROVED.md", "docs/proof/STATEMENT.md", "docs/proof/TRUST.md", "docs/warcdx.1", "docs/warcdx-gz.1", "gateway/BROWSE.md", "gateway/README.md",
+    "docs/proof/PROVED.md", "docs/proof/STATEMENT.md", "docs/proof/TRUST.md", "gateway/BROWSE.md", "gateway/README.md",
 )  # fmt: skip
 HOUSE_WORDS = re.compile(r"\b(?:stamps?|heads?|stands?|(?:that|those) of|as for|all else)\b", re.IGNORECASE)
 
