@@ -197,7 +197,7 @@ class Fetching(Case):
         index.write_text("".join(f"{line.replace('a.warc', name)}\n" for line in lines for name in (*names, "a.warc")))
         whys = [
             f"{self.folder}/pipe.warc: a pipe can be read only once, by list, verify or index; save it to a file",
-            f"{self.folder}/rotten.warc: Read",
+            f"{self.folder}/rotten.warc: Read (Input/output error)",
             f"{self.folder}/nosuch.warc: cannot open (No such file or directory); --archives FOLDER names the folder below which it has this path",
         ]
         said = [f"warcdx-fetch: {time} {URL}: {why}" for time in ("20160919172024", "20180102030405") for why in whys]
