@@ -4,11 +4,12 @@ import io
 import os
 import re
 import stat
-from collections.abc import Iterator
+from collections.abc import Generator, Iterator
 from typing import IO, NamedTuple, Optional, TypeVar
 
 from .errors import Fault, ProgramError, expect_type, number_of
 from .faults import NoRecord, Read, cannot_open
+from .iterators import Again
 from .program import Path, find_packed_program, find_program, memory_file, operand, running, started, write_output
 from .record import CLOSING, Record, RecordStream, Unreadable
 from .reported import fault
@@ -63,13 +64,11 @@ class Archive:
 
     def list(self) -> Iterator[Listed]:
         """Yields each record."""
-        for found in self._lines("list", _LISTED):
-            yield Listed(int(found[0]), int(found[1]), found[2])
+        return Again(Listed(int(found[0]), int(found[1]), found[2]) for found in self._lines("list", _LISTED))
 
     def verify(self) -> Iterator[Verified]:
         """Yields each record, with the verdict on the digest of its block."""
-        for found in self._lines("verify", _VERIFIED):
-            yield Verified(int(found[0]), found[1])
+        return Again(Verified(int(found[0]), found[1]) for found in self._lines("verify", _VERIFIED))
 
     def index(self, output: IO[bytes], *, name: Optional[str] = None, types: Optional[str] = None) -> None:
         """Writes an index of the captures. `types` are those of `--types` of the program.
@@ -94,6 +93,9 @@ class Archive:
 
         Records of the usual form are read by this process, and others are asked of the program.
         """
+        return Again(self._records())
+
+    def _records(self) -> Generator[Record, None, None]:
         file = None
         try:
             with self.opened() as (file, is_packed):
@@ -101,23 +103,30 @@ class Archive:
         except (OSError, ValueError):
             pass  # the program says why the file can't be read
         if file is None or file.end < file.size:
-            yield from self._further_records(0 if file is None else file.end)
+            for listed, stream in self.listed_streams(file):
+                yield Record(stream.head.fields, b"".join(stream.whole_block()), listed.offset, listed.length)
 
     def streams(self) -> Iterator[RecordStream]:
         """Yields each record to be read in pieces, before the next one is taken. Long ones take little memory so."""
-        return (stream for _, stream in self.listed_streams())
+        return Again(stream for _, stream in self.listed_streams())
 
-    def listed_streams(self, start: int = 0) -> Iterator[tuple[Listed, RecordStream]]:
-        """Yields what `list` has of each record from an offset on, and the record as `streams` does."""
+    def listed_streams(self, read: Optional[ArchiveFile] = None) -> Iterator[tuple[Listed, RecordStream]]:
+        """Yields what `list` has of each record, and the record as `streams` does, if a file was read behind its `end`.
+
+        Raises Read if another file has taken the archive's place meanwhile.
+        """
         expect_file(self.path)
+        start, before = (0, self._identity()) if read is None else (read.end, read.identity)
         for listed in self.list():
             if listed.offset < start:
                 continue
             text = self._text_at(listed.offset, listed.length, _MOST_STREAMED)
             if text is not None:
+                self._expect(before)
                 yield listed, RecordStream(*_parted(text))
                 continue
             with self._stream_by_program(listed.offset, listed.length) as stream:
+                self._expect(before)
                 yield listed, stream
 
     def record(self, offset: int, *, length: Optional[int] = None) -> Record:
@@ -225,15 +234,24 @@ class Archive:
     def _is_packed(self, file: ArchiveFile) -> bool:
         return False
 
+    def _identity(self) -> Optional[tuple[int, int]]:
+        """Returns what another file in the archive's place doesn't have. It stays the same if the archive is written on."""
+        try:
+            found = os.stat(self.path)
+        except (OSError, ValueError):  # the program says why
+            return None
+        return found.st_dev, found.st_ino
+
+    def _expect(self, identity: Optional[tuple[int, int]]) -> None:
+        if self._identity() != identity:
+            replaced = Read("Read", self.path)
+            replaced.advice = "another file has taken its place while it was read"
+            raise replaced
+
     def _record_by_program(self, offset: int, length: Optional[int] = None) -> Record:
         with running(*self._get(offset, length)) as output:
             text = output.read()
         return Record.read(text, offset, length)
-
-    def _further_records(self, start: int) -> Iterator[Record]:
-        """Yields the records from an offset on, of which the program says where they are and what is at fault."""
-        for listed, stream in self.listed_streams(start):
-            yield Record(stream.head.fields, b"".join(stream.whole_block()), listed.offset, listed.length)
 
     def _opened(self) -> IO[bytes]:
         try:

@@ -3,19 +3,21 @@ import contextlib
 import itertools
 import queue
 import weakref
-from collections.abc import Callable, Iterable, Iterator, Sequence
+from collections.abc import Callable, Generator, Iterable, Iterator, Sequence
 from typing import Any, NoReturn, Optional, Union
 
 from .asked import Asked, parameter_of
 from .errors import Refused, expect_type, number_of
 from .fields import FIELDS
 from .index_files import open_files
+from .iterators import Again
 from .program import Path, find_program, operands
 from .query import MOST_LIMIT, Capture, Page, Query, RowPage, Texts, Value, fits, in_bytes, length_of, one_line, rows_query, split_rows
 from .reported import refused
 from .serve import Serve
 from .stamps import Moment
 
+_LOOK = 0.05  # seconds between two looks at streams that are being read
 PAGE_SIZE = 5000  # captures that an iterator holds at a time
 _VALUES: dict[str, Callable[[str], object]] = {"length": length_of, "offset": int}
 
@@ -89,6 +91,7 @@ class Index:
         self._turns: queue.SimpleQueue[bool] = queue.SimpleQueue()
         for _ in range(processes):
             self._turns.put(True)
+        self._streams: weakref.WeakSet[Again[bytes]] = weakref.WeakSet()
 
     def captures(
         self,
@@ -109,7 +112,7 @@ class Index:
         pages are too long for a query. Other queries are answered meanwhile, however slowly the captures are taken.
         """
         asked = Asked.of(url, query, match, since, until, filter, limit, parameters)
-        return (Capture.of(row) for rows, _ in self._row_pages(asked, FIELDS, page_size) for row in rows)
+        return Again(Capture.of(row) for rows, _ in self._row_pages(asked, FIELDS, page_size) for row in rows)
 
     def pages(
         self,
@@ -126,7 +129,7 @@ class Index:
     ) -> Iterator[Page]:
         """Yields the same captures page by page, each with the resume key of the next page."""
         asked = Asked.of(url, query, match, since, until, filter, limit, parameters)
-        return (Page(tuple(map(Capture.of, rows)), key) for rows, key in self._row_pages(asked, FIELDS, page_size))
+        return Again(Page(tuple(map(Capture.of, rows)), key) for rows, key in self._row_pages(asked, FIELDS, page_size))
 
     def page(
         self,
@@ -164,7 +167,7 @@ class Index:
     ) -> Iterator[list[str]]:
         """Yields the values of these fields of each capture that a query selects, as texts."""
         asked = Asked.of(url, query, match, since, until, filter, limit, parameters)
-        return (row for rows, _ in self._row_pages(asked, _fields_of(fields), page_size) for row in rows)
+        return Again(row for rows, _ in self._row_pages(asked, _fields_of(fields), page_size) for row in rows)
 
     def columns(
         self,
@@ -231,9 +234,20 @@ class Index:
         It is read by one query, whose process answers no other until the last piece is taken or the iterator is
         closed. `seconds` is the time for each piece, and `most` bounds none.
         """
+        pieces = Again(self._stream(query))
+        self._streams.add(pieces)
+        return pieces
+
+    def _stream(self, query: str) -> Generator[bytes, None, None]:
         line, asked = _line_of(query), Query.of(query, {})
-        with self._turn(asked) as serve:
-            yield from serve.stream(line, asked.has("output", "json"), self.seconds)
+        with self._turn(asked) as serve, contextlib.closing(serve.stream(line, asked.has("output", "json"), self.seconds)) as pieces:
+            for piece in pieces:
+                yield piece
+                self._expect_open()
+
+    def _expect_open(self) -> None:
+        if self._is_closed:
+            raise ValueError("the Index is closed")
 
     def __repr__(self) -> str:
         return f"Index({self._files.names!r:.200})"
@@ -242,12 +256,19 @@ class Index:
         raise TypeError("an Index isn't copied, or sent to another process; open another one there")
 
     def close(self) -> None:
-        """Ends the processes, after the queries that are being answered. A second call does nothing more."""
+        """Ends the processes, after the queries that are being answered. A second call does nothing more.
+
+        A stream that isn't read to its end is ended too: it raises ValueError then.
+        """
         self._is_closed = True
         taken = list[bool]()
         try:
             while len(taken) < self._processes:
-                taken.append(self._turns.get())
+                with contextlib.suppress(RuntimeError):  # another thread begins one meanwhile
+                    for stream in list(self._streams):
+                        stream.fail(ValueError("the Index is closed"))
+                with contextlib.suppress(queue.Empty):
+                    taken.append(self._turns.get(timeout=_LOOK))
             while self._idle:
                 self._idle.pop().end()
             self._close_files()
@@ -261,7 +282,7 @@ class Index:
     def __exit__(self, *error: object) -> None:
         self.close()
 
-    def _row_pages(self, asked: Asked, fields: Sequence[str], size: Optional[int]) -> Iterator[RowPage]:
+    def _row_pages(self, asked: Asked, fields: Sequence[str], size: Optional[int]) -> Generator[RowPage, None, None]:
         """Yields the rows of each page of at most `size` captures, and the resume key of the next page.
 
         If no query can have that key, the page is read again, longer, and what follows in it is a further page.
@@ -299,8 +320,7 @@ class Index:
         try:
             # One step of the interpreter, so that no interrupt comes when a turn is taken, and before it is noted.
             turns.extend(itertools.islice(iter(self._turns.get, None), 1))
-            if self._is_closed:
-                raise ValueError("the Index is closed")
+            self._expect_open()
             serve = self._last_used()
             serve.waits = self.waits
             yield serve

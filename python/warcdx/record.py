@@ -3,13 +3,14 @@ import contextlib
 import datetime
 import functools
 import re
-from collections.abc import Iterator
+from collections.abc import Generator, Iterator
 from dataclasses import dataclass, field
 from typing import IO, Optional, Union
 
 from .codings import UNLIMITED, Limits, Unreadable
 from .errors import expect_type
 from .http_messages import Fields, HttpHead, Message, WithFields, field_of, pieces_of, unfolded
+from .iterators import Again
 
 __all__ = ["Head", "HttpHead", "Record", "RecordStream", "Unreadable", "payload"]
 
@@ -141,6 +142,9 @@ class RecordStream:
 
     def whole(self) -> Iterator[bytes]:
         """Yields the record as it is stored, in pieces. They end in it if the archive does."""
+        return Again(self._whole())
+
+    def _whole(self) -> Generator[bytes, None, None]:
         self._take()
         yield self._text + CLOSING
         while piece := self._rest.read(_PIECE):
@@ -148,16 +152,19 @@ class RecordStream:
 
     def block(self) -> Iterator[bytes]:
         """Yields the block in pieces. They have fewer bytes than `length` if the archive ends in them."""
-        self._take()
-        yield from self._pieces()
+        return Again(self._block(False))
 
     def whole_block(self) -> Iterator[bytes]:
         """Yields the block as `block` does. Raises Unreadable if it has fewer bytes than `length`."""
+        return Again(self._block(True))
+
+    def _block(self, is_whole: bool) -> Generator[bytes, None, None]:
+        self._take()
         left = self.length
-        for piece in self.block():
+        for piece in self._pieces():
             left -= len(piece)
             yield piece
-        if left:
+        if left and is_whole:
             raise Unreadable("the archive ends in the record")
 
     def _take(self, message: Optional[Message] = None) -> None:
@@ -189,12 +196,12 @@ class RecordStream:
     def payload(self, limits: Limits = UNLIMITED) -> Iterator[bytes]:
         """Yields the body without its codings, as `payload` returns it. One beyond the limits is Unreadable."""
         self._take(self._message)
-        return _said_to_be_cut(self.head, self._message.payload(limits))
+        return Again(_said_to_be_cut(self.head, self._message.payload(limits)))
 
     def stored_payload(self, limits: Limits = UNLIMITED) -> Iterator[bytes]:
         """Yields the body without its transfer codings only, such as chunks. Its content codings stay."""
         self._take(self._message)
-        return _said_to_be_cut(self.head, self._message.stored_payload(limits))
+        return Again(_said_to_be_cut(self.head, self._message.stored_payload(limits)))
 
     @property
     def stored_length(self) -> Optional[int]:
@@ -226,7 +233,7 @@ def _length_of(head: Head) -> int:
     return int(value)
 
 
-def _said_to_be_cut(head: Head, body: Iterator[bytes]) -> Iterator[bytes]:
+def _said_to_be_cut(head: Head, body: Iterator[bytes]) -> Generator[bytes, None, None]:
     """Yields a body. If it can't be read, and the record is truncated (ISO 28500:2017, 5.13), the reason says so."""
     try:
         yield from body

@@ -8,7 +8,7 @@ import select
 import subprocess
 import time
 import weakref
-from collections.abc import Callable, Generator, Iterator
+from collections.abc import Callable, Generator
 from typing import IO, NamedTuple, Optional
 
 from .errors import NO_STATUS, Error, Fault, ProgramEnded, ProgramError, Refused, ReplyTooLate, ReplyTooLong
@@ -67,7 +67,7 @@ class Serve:
             raise refusal
         return text_of(reply, is_json, self._files.names)
 
-    def stream(self, query: bytes, is_json: bool, seconds: Optional[float] = None) -> Iterator[bytes]:
+    def stream(self, query: bytes, is_json: bool, seconds: Optional[float] = None) -> Generator[bytes, None, None]:
         """Yields a page as `text` returns it, in pieces as the program writes them, each within `seconds`.
 
         A program that ends meanwhile is started again, and goes on after the bytes that were given, unless it

@@ -131,7 +131,7 @@ def _checked(length: int, pieces: Iterator[bytes]) -> Iterator[bytes]:
 class ArchiveFile:
     """An archive that is open to be read at any place. Raises OSError if it isn't a file, or can't be opened, or has no size.
 
-    `size` is that of the file when it was opened, in bytes. `end` is the offset up to which records were yielded.
+    `size` is that of the file when it was opened, in bytes, and `identity` what no other file has. `end` is the offset up to which records were yielded.
     """
 
     def __init__(self, path: str) -> None:
@@ -139,7 +139,7 @@ class ArchiveFile:
             raise OSError("not a regular file")
         self._number = os.open(path, os.O_RDONLY | os.O_CLOEXEC | os.O_NONBLOCK)  # a pipe may have taken its place
         found = os.fstat(self._number)
-        self.size = found.st_size
+        self.size, self.identity = found.st_size, (found.st_dev, found.st_ino)
         if not self.size or not stat.S_ISREG(found.st_mode):  # or the system can't give the size, as of a file in /proc
             self.close()
             raise OSError("not a regular file of a size")

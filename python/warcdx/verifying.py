@@ -1,7 +1,7 @@
 """Compares the digests of blocks and of payloads with an archive of either form."""
 import os
 from collections.abc import Generator, Iterator
-from typing import NamedTuple
+from typing import NamedTuple, Optional
 
 from .archive import Archive
 from .codings import Unreadable
@@ -9,7 +9,7 @@ from .faults import NoRecord, Read
 from .record import Head
 from .record_digests import BlockCheck, Verdict
 from .reported import fault
-from .usual_records import NotUsual
+from .usual_records import ArchiveFile, NotUsual
 
 
 class Checked(NamedTuple):
@@ -34,15 +34,15 @@ def check_archive(archive: Archive) -> Generator[Checked, None, None]:
             return
     except (NotUsual, OSError, ValueError):
         pass  # the program says what is there, or why the file can't be read
-    yield from check_listed(archive, 0 if file is None else file.end)
+    yield from check_listed(archive, file)
     if file is not None and (size := os.stat(archive.path).st_size) < file.size:  # another process has cut it
         raise fault("ShortHead", archive.path, size)
 
 
-def check_listed(archive: Archive, start: int = 0) -> Iterator[Checked]:
-    """Yields the records from an offset on, all of which the program finds. Raises Read if one is changed after that."""
+def check_listed(archive: Archive, read: Optional[ArchiveFile] = None) -> Iterator[Checked]:
+    """Yields the records, if a file was read those behind its `end`, which the program finds. Raises Read if one is changed after that."""
     try:
-        for listed, record in archive.listed_streams(start):
+        for listed, record in archive.listed_streams(read):
             yield _checked(listed.offset, record.head, record.length, record.whole_block())
     except (NoRecord, Unreadable) as error:
         raise Read("Read", archive.path) from error
