@@ -407,7 +407,8 @@ class Starts(Case):
             (("--port", "http"), "--port: a number from 0 to 65535"),
             (("--port", "65536"), "--port: a number from 0 to 65535"),
             (("--workers", "1"), "--workers: a number from 2 to 256"),
-            ((), "give either SETTINGS or --indexes INDEX.."),
+            (("--address", "127.0.0.1:80"), "an address without a port: write --address 127.0.0.1 --port 80"),
+            ((), "give either SETTINGS or --indexes INDEX..: gateway.toml is SETTINGS"),
         ):
             self.assertIn(wanted, self.fails(*words, "--indexes", "index", "gateway.toml", status=2))
 

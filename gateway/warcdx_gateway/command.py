@@ -20,6 +20,7 @@ Exit status:
   3  a file can't be opened, the address can't be used, a package is missing, or
      the program, memory or standard output failed
 """
+import argparse
 import dataclasses
 import pathlib
 import sys
@@ -42,15 +43,15 @@ def read_arguments(arguments: Optional[Sequence[str]]) -> Settings:
     parser.add_argument("settings", metavar="SETTINGS", nargs="?", help="a file in TOML")
     parser.add_argument("--indexes", metavar="INDEX", nargs="+", help="the indexes of one collection")
     parser.add_argument("--archives", metavar="FOLDER", nargs="+", default=[], help="the folders of its archives")
-    parser.add_argument("--address", help="the address to listen at, instead of that of the settings")
+    parser.add_argument("--address", type=address_of, help="the address to listen at, instead of that of the settings")
     parser.add_argument("--port", type=command.number_from(0, 65_535), help="the port, 0 for any that is free")
     parser.add_argument("--host", help="a name that requests may have in their field Host")
     parser.add_argument("--workers", type=command.number_from(2, MOST_WORKERS), help="how many processes answer requests")
     parser.add_argument("--program", help="the program warcdx")
     given = parser.parse(arguments)
-    is_among_indexes = any(name.endswith(".toml") for name in given.indexes or ())
-    if (given.settings is None) == (given.indexes is None) or is_among_indexes:
-        parser.error("give either SETTINGS or --indexes INDEX..")
+    misplaced = "".join(f": {name} is SETTINGS" for name in given.indexes or () if name.endswith(".toml"))
+    if (given.settings is None) == (given.indexes is None) or misplaced:
+        parser.error(f"give either SETTINGS or --indexes INDEX..{misplaced}")
     if given.settings is not None:
         settings = read_settings(pathlib.Path(given.settings))
     else:
@@ -60,6 +61,14 @@ def read_arguments(arguments: Optional[Sequence[str]]) -> Settings:
     if given.host is not None:
         changed["hosts"] = (*settings.hosts, given.host)
     return checked(dataclasses.replace(settings, **changed))
+
+
+def address_of(text: str) -> str:
+    """Reads an address, without a port."""
+    address, _, port = text.partition(":")
+    if port.isdecimal():
+        raise argparse.ArgumentTypeError(f"an address without a port: write --address {address} --port {port}")
+    return text
 
 
 def work(arguments: Optional[Sequence[str]]) -> int:

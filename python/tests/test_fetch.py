@@ -120,7 +120,10 @@ class Fetching(Case):
 
     def test_no_page(self) -> None:
         for words, wanted in (
-            (("http://example.com/none",), "http://example.com/none: no index has a capture of it; docs/FAQ.md has the usual causes"),
+            (
+                ("http://example.com/none",),
+                "http://example.com/none: no index has a capture of it; warcdx query 'url=example.com/*&fl=original' INDEX shows what there is of the host",
+            ),
             (("http://example.com/lost",), "http://example.com/lost: it is a revisit, and no index has its original"),
         ):
             self.assertEqual((1, b"", f"warcdx-fetch: {wanted}\n"), self.fetch(*words), words)
@@ -215,7 +218,11 @@ class Fetching(Case):
 
     def test_nothing_is_made_for_a_query_without_captures(self) -> None:
         for query, wanted in (
-            ("example.com/x*", "no index has a capture of it; docs/FAQ.md has the usual causes"),
+            ("*.example.net", "no index has a capture of it; docs/FAQ.md has the usual causes"),
+            (
+                "example.com/x*",
+                "no index has a capture of it; warcdx query 'url=example.com/*&fl=original' INDEX shows what there is of the host",
+            ),
             (
                 "url=example.com&from=June",
                 "the query is refused: BadStamp in from: from and to are 1 to 14 digits without - and :, such as 2016 or 20160919172024.",

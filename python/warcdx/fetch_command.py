@@ -71,6 +71,7 @@ INSTEAD = {
 _MOST_NAME = 150  # characters of a file's name that are of its URL
 _UNSAFE = re.compile("[^A-Za-z0-9._-]+")
 _ENDING = re.compile(r"\.[A-Za-z0-9]{1,8}")
+_HOST = re.compile("(?:https?://)?([A-Za-z0-9.-]+(?::[0-9]+)?)(?:/|$)")  # at the beginning of a URL
 _PARAMETERS = re.compile("[A-Za-z]+=")
 
 
@@ -146,7 +147,12 @@ def fetch_page(given: argparse.Namespace, collection: Collection, output: Binary
 
 
 def say_there_is_none(given: argparse.Namespace) -> int:
-    hint = "--all takes a URL with *" if "*" in given.query and not given.all else "docs/FAQ.md has the usual causes"
+    host = _HOST.match(given.query)
+    hint = (
+        f"warcdx query 'url={host[1]}/*&fl=original' INDEX shows what there is of the host" if host else "docs/FAQ.md has the usual causes"
+    )
+    if "*" in given.query and not given.all:
+        hint = "--all takes a URL with *"
     report(NAME, f"{printable(given.query)}: no index has a capture of it; {hint}")
     return FAULTY
 
