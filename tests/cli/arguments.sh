@@ -27,88 +27,28 @@ file_first() { # WORD
     tipped "$1" "a command precedes the files, as in 'index FILE'"
 }
 
-negative() { # OPTION
-    lines "error: unexpected option '$1'" "" "  tip: an offset, a length and a size are numbers without '-'" "" \
-        "For more information, try '--help'."
-}
-
 no_offset() { # WORD
-    lines "error: invalid value '$1' for '<OFFSET>': an offset is 1 to 19 digits, below 2^63, and precedes the archive" "" \
-        "For more information, try '--help'."
+    invalid "$1" "<OFFSET>" "an offset is 1 to 19 digits, below 2^63, and precedes the archive"
 }
 
 no_sizes() { # WORD
-    lines "error: invalid value '$1' for '<SIZES>': sizes are 1 to 1,000 numbers from 1 to 1,000,000, with ',' between, and precede the query" "" \
-        "For more information, try '--help'."
+    invalid "$1" "<SIZES>" "sizes are 1 to 1,000 numbers from 1 to 1,000,000, with ',' between, and precede the query"
 }
 
 no_types() { # WORD
-    lines "error: invalid value '$1' for '--types <TYPES>': types are response, resource, revisit, conversion and metadata, each once at most, with ',' between" "" \
-        "For more information, try '--help'."
+    invalid "$1" "--types <TYPES>" "types are response, resource, revisit, conversion and metadata, each once at most, with ',' between"
 }
 
-unexpected() { # OPTION
-    lines "error: unexpected option '$1'" "" "  tip: a file whose name begins with '-' is written './-name'" "" \
-        "For more information, try '--help'."
+no_length() { # WORD
+    invalid "$1" "--length <LENGTH>" "a length is 1 to 19 digits, below 2^63"
 }
 
-no_version() { # OPTION
-    lines "error: unexpected option '$1'" "" "  tip: '--version' is the only argument" "" \
-        "For more information, try '--help'."
+invalid() { # WORD OPERAND RULE
+    lines "error: invalid value '$1' for '$2': $3" "" "For more information, try '--help'."
 }
 
 not_utf8() { # ARGUMENT
     lines "error: $1 isn't UTF-8" "" "For more information, try '--help'."
-}
-
-misplaced() { # OPTION
-    lines "error: unexpected option '$1'" "" "  tip: '--types TYPES' stands once, directly after 'index' or 'scan'" "" \
-        "For more information, try '--help'."
-}
-
-joined() { # OPTION
-    lines "error: unexpected option '$1'" "" "  tip: an option and its value are two arguments, as '--types response'" "" \
-        "For more information, try '--help'."
-}
-
-to_file() { # OPTION
-    lines "error: unexpected option '$1'" "" "  tip: the output is standard output: write '> FILE' behind the command" "" \
-        "For more information, try '--help'."
-}
-
-of_update() { # OPTION
-    lines "error: unexpected option '$1'" "" "  tip: 'warcdx-update' indexes folders, several archives at a time" "" \
-        "For more information, try '--help'."
-}
-
-of_query() { # OPTION
-    lines "error: unexpected option '$1'" "" "  tip: the parameters of a query stand in its text, as 'url=example.com&limit=5'" "" \
-        "For more information, try '--help'."
-}
-
-no_command() { # OPTION
-    lines "error: unexpected option '$1'" "" "  tip: a command is written without '-', as in 'list FILE'" "" \
-        "For more information, try '--help'."
-}
-
-misplaced_name() { # OPTION
-    lines "error: unexpected option '$1'" "" "  tip: '--name NAME' stands once, directly after 'index', 'scan' or their '--types TYPES'" "" \
-        "For more information, try '--help'."
-}
-
-no_length() { # WORD
-    lines "error: invalid value '$1' for '--length <LENGTH>': a length is 1 to 19 digits, below 2^63" "" \
-        "For more information, try '--help'."
-}
-
-no_long() { # OPTION
-    lines "error: unexpected option '$1'" "" "  tip: '--help' prints the options; a file whose name begins with '-' is written './-name'" "" \
-        "For more information, try '--help'."
-}
-
-misplaced_offset() { # OPTION
-    lines "error: unexpected option '$1'" "" "  tip: an offset is written alone, as in 'get OFFSET FILE'" "" \
-        "For more information, try '--help'."
 }
 
 length_behind() { # LENGTH
@@ -116,9 +56,24 @@ length_behind() { # LENGTH
         "For more information, try '--help'."
 }
 
-misplaced_length() { # OPTION
-    lines "error: unexpected option '$1'" "" "  tip: '--length LENGTH' stands once, directly after 'get'" "" \
-        "For more information, try '--help'."
+# Each takes an OPTION.
+unexpected() { option "$1" "'--help' prints the options; a file whose name begins with '-' is written './-name'"; }
+negative() { option "$1" "an offset, a length and a size are numbers without '-'"; }
+no_version() { option "$1" "'--version' is the only argument"; }
+misplaced() { option "$1" "'--types TYPES' stands once, directly after 'index' or 'scan'"; }
+misplaced_name() { option "$1" "'--name NAME' stands once, directly after 'index', 'scan' or their '--types TYPES'"; }
+misplaced_length() { option "$1" "'--length LENGTH' stands once, directly after 'get'"; }
+misplaced_offset() { option "$1" "an offset is written alone, as in 'get OFFSET FILE'"; }
+joined() { option "$1" "an option and its value are two arguments, as '--types response'"; }
+to_file() { option "$1" "the output is standard output: write '> FILE' behind the command"; }
+of_update() { option "$1" "'warcdx-update' indexes folders, several archives at a time"; }
+of_query() { option "$1" "the parameters of a query stand in its text, as 'url=example.com&limit=5'"; }
+sorted() { option "$1" "'index' and 'merge' write sorted lines"; }
+quiet() { option "$1" "standard error has faults alone: write '2> FILE' behind the command"; }
+no_command() { option "$1" "a command is written without '-', as in 'list FILE'"; }
+
+option() { # OPTION TIP
+    lines "error: unexpected option '$1'" "" "  tip: $2" "" "For more information, try '--help'."
 }
 
 # check_help CASE LINES ARGUMENT..
@@ -141,6 +96,7 @@ no_check=$(refusal "the following required arguments were not provided:"$'\n  <I
 no_serve=$(refusal "the following required arguments were not provided:"$'\n  <INDEX>...' "serve <INDEX>...")
 no_query=$(refusal "the following required arguments were not provided:"$'\n  <QUERY>\n  <INDEX>...' "query <QUERY> <INDEX>...")
 no_index_asked=$(refusal "the following required arguments were not provided:"$'\n  <INDEX>...' "query <QUERY> <INDEX>...")
+no_query_asked=$(lines "$no_index_asked" "" "  tip: a query precedes the indexes, as in 'query url=example.com INDEX'")
 unquoted=$(lines "$no_index_asked" "" "  tip: a query stands in single quotes, since & ends a command of a shell")
 no_pages=$(refusal "the following required arguments were not provided:"$'\n  <SIZES>\n  <QUERY>\n  <INDEX>...' "pages <SIZES> <QUERY> <INDEX>...")
 no_query_of_pages=$(refusal "the following required arguments were not provided:"$'\n  <QUERY>\n  <INDEX>...' "pages <SIZES> <QUERY> <INDEX>...")
@@ -154,7 +110,7 @@ no_value=$(lines "error: a value is required for '--types <TYPES>' but none was 
 no_input=$(lines "error: '--name <NAME>' names the archive '-', which isn't given" "" "For more information, try '--help'.")
 no_length_value=$(lines "error: a value is required for '--length <LENGTH>' but none was supplied" "" "For more information, try '--help'.")
 no_archive_of_length=$(refusal "the following required arguments were not provided:"$'\n  <WARC>' "get --length <LENGTH> <OFFSET> <WARC>")
-help_tip=$(tipped help "'warcdx --help' and 'warcdx COMMAND --help' print help")
+help_tip=$(tipped help "'--help' stands alone, or behind a command, as in 'index --help'")
 long_name=$(printf '%04096d' 0)
 
 #     case                              output error           status, arguments and input
@@ -164,7 +120,7 @@ check "index alone"                     "" "$no_index"                     2 ind
 check "check alone"                     "" "$no_check"                     2 check
 check "query alone"                     "" "$no_query"                     2 query
 check "query without an index"          "" "$unquoted"                     2 query url=a
-check "query of a name without an index" "" "$no_index_asked"              2 query sorted.cdxj
+check "query of a name without an index" "" "$no_query_asked"              2 query sorted.cdxj
 check "query -x"                        "" "$(unexpected -x)"              2 query -x sorted.cdxj
 check "serve alone"                     "" "$no_serve"                     2 serve
 check "serve -x"                        "" "$(unexpected -x)"              2 serve -x
@@ -194,7 +150,11 @@ check "--jobs"                          "" "$(of_update --jobs)"           2 ind
 check "-r"                              "" "$(of_update -r)"               2 index -r folder
 check "--limit"                         "" "$(of_query --limit)"           2 query --limit 5 url=a a.cdxj
 check "-n"                              "" "$(of_query -n)"                2 query -n 5 url=a a.cdxj
-check "--quiet"                         "" "$(no_long --quiet)"            2 list --quiet m.warc
+check "--quiet"                         "" "$(quiet --quiet)"              2 list --quiet m.warc
+check "-v"                              "" "$(quiet -v)"                   2 verify -v m.warc
+check "-s"                              "" "$(sorted -s)"                  2 index -s m.warc
+check "--sort"                          "" "$(sorted --sort)"              2 index --sort m.warc
+check "--surt"                          "" "$(unexpected --surt)"          2 index --surt m.warc
 check "--offset"                        "" "$(misplaced_offset --offset)"  2 get --offset 0 m.warc
 check "--from"                          "" "$(of_query --from)"            2 query url=a a.cdxj --from 2016
 check "--type"                          "" "$(misplaced --type)"           2 index --type response m.warc
@@ -251,7 +211,16 @@ check "- in place of a command"         "" "$(file_first -)"               2 -
 check "an empty word"                   "" "$(unknown "")"                 2 ""
 check "help"                            "" "$help_tip"                     2 help
 check "help list"                       "" "$help_tip"                     2 help list
-check "version"                         "" "$(tipped version "'warcdx --version' prints the version")" 2 version
+check "version"                         "" "$(tipped version "'--version' prints the version")" 2 version
+check "extract"                         "" "$(tipped extract "'get OFFSET FILE' writes a record")" 2 extract r.warc 0
+check "search"  "" "$(tipped search "'query QUERY INDEX' writes the captures that a query selects")"    2 search url=a a.cdxj
+check "cdxj"                            "" "$(tipped cdxj "'index FILE' writes a CDXJ index")"     2 cdxj m.warc
+check "sort"                            "" "$(tipped sort "'index' and 'merge' write sorted lines")" 2 sort a.cdxj
+check "validate" "" "$(tipped validate "'verify' checks the digests of archives, and 'check' indexes")" 2 validate m.warc
+check "convert"  "" "$(tipped convert "warcdx-cdx converts CDX files to indexes, and back")"       2 convert a.cdx
+check "update"   "" "$(tipped update "warcdx-update keeps one index of the archives in a folder")" 2 update folder
+check "gateway"  "" "$(tipped gateway "warcdx-gateway answers over HTTP, and 'serve' line by line")" 2 gateway a.cdxj
+check "recompress" "" "$(tipped recompress "'warcio recompress' compresses archives")"             2 recompress m.warc
 check "a command in capitals"           "" "$(unknown LIST)"               2 LIST same.warc
 check "-x"                              "" "$(unexpected -x)"              2 -x
 check "--"                              "" "$(unexpected --)"              2 --

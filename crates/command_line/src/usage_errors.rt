@@ -63,8 +63,21 @@ fn first_word(words: &[String]) -> &str {
 
 fn command_tip(word: &str) -> Option<&'static str> {
     match word {
-        "help" => Some("'warcdx --help' and 'warcdx COMMAND --help' print help"),
-        "version" => Some("'warcdx --version' prints the version"),
+        "help" => Some("'--help' stands alone, or behind a command, as in 'index --help'"),
+        "version" => Some("'--version' prints the version"),
+        "extract" | "cat" | "read" | "fetch" => Some("'get OFFSET FILE' writes a record"),
+        "search" | "find" | "grep" | "lookup" => {
+            Some("'query QUERY INDEX' writes the captures that a query selects")
+        }
+        "cdx" | "cdxj" | "indexer" => Some("'index FILE' writes a CDXJ index"),
+        "sort" => Some("'index' and 'merge' write sorted lines"),
+        "validate" | "test" => Some("'verify' checks the digests of archives, and 'check' indexes"),
+        "convert" => Some("warcdx-cdx converts CDX files to indexes, and back"),
+        "update" | "add" => Some("warcdx-update keeps one index of the archives in a folder"),
+        "gateway" | "server" | "replay" => {
+            Some("warcdx-gateway answers over HTTP, and 'serve' line by line")
+        }
+        "compress" | "recompress" => Some("'warcio recompress' compresses archives"),
         _ if is_file_name(word) => Some("a command precedes the files, as in 'index FILE'"),
         _ => None,
     }
@@ -82,19 +95,25 @@ fn no_argument(alloc: Global, words: &[String], text: String) -> WordsFault
         [command, query, ..] if takes_sizes(command) && query.contains('=') => invalid(
             alloc, query, SIZES, SIZES_RULE,
         ),
-        [_command, .., last] if last.contains('=') => unquoted(alloc, &text),
+        [_command, .., last] if last.contains('=') => with_more(
+            alloc,
+            &text,
+            "a query stands in single quotes, since & ends a command of a shell",
+        ),
+        [command, _file] if command.as_str() == "query" => with_more(
+            alloc,
+            &text,
+            "a query precedes the indexes, as in 'query url=example.com INDEX'",
+        ),
         _ => WordsFault::Usage(text),
     }
 }
 
-/// Returns the usage error for a query without a file behind it. `text` is clap's, which doesn't see that a shell has cut the query.
-fn unquoted(alloc: Global, text: &str) -> WordsFault
+/// Returns clap's text, with what to do.
+fn with_more(alloc: Global, text: &str, tip: &str) -> WordsFault
     ensures { IsUsage result }
 {
-    usage(format!(in alloc;
-        "{text}\n  \
-         tip: a query stands in single quotes, since & ends a command of a shell\n"
-    ))
+    usage(format!(in alloc; "{text}\n  tip: {tip}\n"))
 }
 
 /// Returns the usage error for an argument too many. `text` is clap's, which doesn't see that a number behind an offset is a length.
@@ -150,6 +169,10 @@ fn tip_for(option: &str) -> &'static str {
         "the output is standard output: write '> FILE' behind the command"
     } else if matches!(option, "-j" | "--jobs" | "-r" | "--recursive") {
         "'warcdx-update' indexes folders, several archives at a time"
+    } else if matches!(option, "-s" | "--sort") {
+        "'index' and 'merge' write sorted lines"
+    } else if matches!(option, "-q" | "--quiet" | "-v" | "--verbose") {
+        "standard error has faults alone: write '2> FILE' behind the command"
     } else if is_of_query(option) {
         "the parameters of a query stand in its text, as 'url=example.com&limit=5'"
     } else if is_command(option) {
@@ -158,10 +181,8 @@ fn tip_for(option: &str) -> &'static str {
         "an offset, a length and a size are numbers without '-'"
     } else if option == "--offset" {
         "an offset is written alone, as in 'get OFFSET FILE'"
-    } else if is_long(option) {
-        "'--help' prints the options; a file whose name begins with '-' is written './-name'"
     } else {
-        "a file whose name begins with '-' is written './-name'"
+        "'--help' prints the options; a file whose name begins with '-' is written './-name'"
     }
 }
 
@@ -180,7 +201,6 @@ fn is_of_query(option: &str) -> bool {
             | "--match-type"
             | "--matchType"
             | "--collapse"
-            | "--sort"
             | "--json"
     )
 }
@@ -198,10 +218,6 @@ fn is_command(option: &str) -> bool {
             | "--serve"
             | "--scan"
     )
-}
-
-fn is_long(option: &str) -> bool {
-    option.starts_with("--") && option.len() > 2
 }
 
 fn is_negative(option: &str) -> bool {

@@ -20,9 +20,9 @@ A damaged archive is listed up to the damage. The last line is then
 with the offset of the record at fault. CAUSE is one of these:
 
   Version       the record doesn't begin with WARC/1.0 or WARC/1.1
-  ShortHead     the archive ends inside the record's head
-  HeadTooLong   the record's head is too long to be read
-  FieldLine     a line of the head is not a field
+  ShortHead     the archive ends inside the record's header
+  HeadTooLong   the record's header has more than 1,048,576 bytes
+  FieldLine     a line of the header is not a named field
   Missing       a mandatory field is missing
   Repeated      a mandatory field is repeated
   BadLength     Content-Length is not a length
@@ -89,11 +89,12 @@ pub const INDEX: Page = Page {
 Writes one sorted CDXJ index of all the archives: a line for each record of one
 of the TYPES with a WARC-Target-URI.
 
-  KEY STAMP OBJECT
+  KEY TIMESTAMP JSON
 
-KEY is made of the record's URL, and STAMP is its date in 14 digits. OBJECT is
-JSON with the members url, mime, status, digest, length, offset and filename.
-Length and offset are in bytes. 'warcdx get' writes the record at an offset.
+KEY is the URL key of the record's URL, which begins with the host in reverse
+(SURT), and TIMESTAMP its date in 14 digits. JSON is an object with the members
+url, mime, status, digest, length, offset and filename. Length and offset are in
+bytes. 'warcdx get' writes the record at an offset.
 docs/CDXJ.md has the rules.
 
 TYPES are one or more of these, separated by commas, none twice: response,

@@ -62,9 +62,9 @@ with the offset of the record or member at fault. CAUSE is one of these:
   CutMember       the archive ends inside the member
   SeveralRecords  the member holds more than one record
   Version         the record doesn't begin with WARC/1.0 or WARC/1.1
-  ShortHead       the archive or the member ends inside the record's head
-  HeadTooLong     the record's head is too long to be read
-  FieldLine       a line of the head is not a field
+  ShortHead       the archive or the member ends inside the record's header
+  HeadTooLong     the record's header has more than 1,048,576 bytes
+  FieldLine       a line of the header is not a named field
   Missing         a mandatory field is missing
   Repeated        a mandatory field is repeated
   BadLength       Content-Length is not a length

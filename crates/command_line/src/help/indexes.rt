@@ -6,13 +6,14 @@ macro_rules! merge_page {
         Page {
             about: "Merges indexes into one",
             details: concat!("\
-Writes the lines of all indexes to standard output, in the order of key, stamp,
-file name and offset. Each line is written as it is in its index. If several
-lines have all four in common, only the first is written: that of the index
-that you name first.
+Writes the lines of all indexes to standard output, in the order of URL key,
+timestamp, file name and offset. Each line is written as it is in its index. If
+several lines have all four in common, only the first is written: that of the
+index that you name first.
 
 The indexes must be sorted; '", $program, " check' checks it. At most 1,024 are
-merged. One line of each is held in memory, and the lines of one key and stamp.
+merged. One line of each is held in memory, and the lines of one URL key and
+timestamp.
 
 All indexes are opened before the first is read. The first fault ends the
 command, and is reported on standard error. The output until then remains:
@@ -55,8 +56,8 @@ Reads each index from its start. If it is in order, this line is printed:
   NAME COUNT
 
 COUNT is the number of its lines. An index is in order if every line is one of a
-capture, and no line has a key and stamp below those of the line before it, by
-bytes. '", $program, " index' writes such indexes, and so does LC_ALL=C sort.
+capture, and no line has a URL key and timestamp below those of the line before
+it, by bytes. '", $program, " index' writes such indexes, and so does LC_ALL=C sort.
 docs/CDXJ.md has the rules.
 
 For any other index the first line at fault is reported on standard error, with
@@ -68,7 +69,8 @@ CAUSE is one of these:
 
   BadLine     the line is not one of a capture, or it is longer than 16,777,216
               bytes, line feed included
-  OutOfOrder  the line's key and stamp are below those of the line before it
+  OutOfOrder  the line's URL key and timestamp are below those of the line
+              before it
 
 The indexes after it are checked too. An index that can't be read, or that is
 cut while it is checked, is reported:
@@ -98,16 +100,16 @@ macro_rules! query_page {
         Page {
             about: "Writes the captures that a query selects",
             details: concat!("\
-Writes the captures of the indexes that the query selects, in the order of key,
-stamp, file name and offset. If lines of several indexes have all four in
-common, only the first counts: that of the index that you name first.
+Writes the captures of the indexes that the query selects, in the order of URL
+key, timestamp, file name and offset. If lines of several indexes have all four
+in common, only the first counts: that of the index that you name first.
 
 QUERY has parameters separated by &. Quote it, because & is special to the
 shell:
 
   url=ADDRESS        *.example.com includes subdomains; example.com/a* matches
                      every address that begins with example.com/a
-  key=KEY            in place of url: a key, as it is in an index
+  key=KEY            in place of url: a URL key, as it is in an index
   matchType=         exact, prefix, host or domain
   from=, to=         the first digits of a time: 2016, 201609, ...
   filter=FIELD:TEXT  the field is TEXT, or isn't, with ! before FIELD
