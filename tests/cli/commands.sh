@@ -349,7 +349,7 @@ advises "why: an HTML file"         "It seems to be an HTML or XML file, and not
 advises "why: an older version"     "No record begins there: its first line isn't WARC/1.0 or WARC/1.1." 1 index old.warc
 advises "why: an index as an archive" "It seems to be an index: warcdx query reads indexes."              1 index sorted.cdxj
 advises "why: a ZIP file"           "It is a ZIP file, as a WACZ file is: unpack it, and index the WARC files in it." 1 index crawl.wacz
-advises "why: a CDX file"           "It is a CDX file: warcdx-cdx converts it to an index."             1 index crawl.cdx
+advises "why: a CDX file"           "It is a CDX file: warcdx-cdx from FILE | LC_ALL=C sort makes an index of it." 1 index crawl.cdx
 advises "why: a byte order mark"    "It begins with a byte order mark: remove its first 3 bytes."       1 index marked.warc
 advises "why: a folder"             "It is a folder: warcdx-update indexes the archives of a folder."   3 index folder
 advises "why: a cut archive"        "The archive ends within a record's header."                        1 index torn.warc
@@ -374,7 +374,7 @@ advises "why: tabs in an index"     "In an index a space, and no tab, follows th
 advises "why: HTML as an index"     "It seems to be an HTML or XML file, and not an index."             1 check page.html
 advises "why: a bad line"           "The line that begins there isn't one of a CDXJ index."             1 check forged
 advises "why: a WARC file as an index" "It is a WARC file: warcdx index makes an index of it."          1 check r.warc
-advises "why: a CDX file as an index" "It is a CDX file: warcdx-cdx converts it to an index."           1 query url=a crawl.cdx
+advises "why: a CDX file as an index" "It is a CDX file: warcdx-cdx from FILE | LC_ALL=C sort makes an index of it." 1 query url=a crawl.cdx
 advises "why: a byte order mark before an index" "It begins with a byte order mark: remove its first 3 bytes." 1 check marked.cdxj
 advises "why: a falling index"      "The index isn't in order: LC_ALL=C sort puts its lines in order."  1 check falling.cdxj
 advises "why: 1,025 indexes"        "At most 1024 files are taken: merge the indexes of some of them first." 1 merge "${too_many[@]}"
@@ -409,6 +409,12 @@ for meant in status:statuscode mime:mimetype url:original; do
     advises "why: a condition on the member ${meant%:*}" "'${meant%:*}' isn't a field, and ${meant#*:} is. $condition" 1 query "url=a&is=${meant%:*}:x" sorted.cdxj
 done
 advises "why: a condition without a colon" "$condition"                                                 1 query "url=a&has=urlkey" sorted.cdxj
+advises "why: a condition of pywb"  "pywb's filter==FIELD:TEXT is is=FIELD:TEXT here. $condition"      1 query "url=a&filter=!=status:200" sorted.cdxj
+advises "why: a pattern of pywb" "pywb's filter=~FIELD:PATTERN has no counterpart here: has=FIELD:TEXT finds a part of a value. $condition" \
+    1 query "url=a&filter=~status:2.." sorted.cdxj
+advises "why: another output"       "output is text, json or cdxj. docs/RECIPES.md makes CSV of json."   1 query "url=a&output=csv" sorted.cdxj
+advises "why: a home folder in quotes" "A shell replaces ~ outside of quotes alone: No such file or directory (os error 2)" 3 list "~/a.warc"
+advises "why: a space behind a name" "Its name ends with a space: No such file or directory (os error 2)" 3 list "same.warc "
 advises "why: a pattern without a file" "Its name is a pattern that no file matches: No such file or directory (os error 2)" 3 list 'missing-*.warc'
 advises "why: a URL as a file" "Its name is a URL, and only files are read: No such file or directory (os error 2)" 3 list http://example.com/a.warc
 advises "why: a query in two arguments" "A query is one argument, with & between its parameters."       3 query url=a fl=urlkey

@@ -24,6 +24,8 @@ const UTF_16: &str = "It is a text in UTF-16: iconv -f UTF-16 -t UTF-8 converts 
 
 const ARC: &str = "It is an ARC file: convert it to a WARC file first.";
 
+const CDX: &str = "It is a CDX file: warcdx-cdx from FILE | LC_ALL=C sort makes an index of it.";
+
 const MANIFEST: &str =
     "It is the list of an index of warcdx-update, of which current/*.cdxj are the indexes.";
 
@@ -49,6 +51,10 @@ pub fn missing_advice(name: &str) -> &'static str {
         "Its name is a URL, and only files are read: "
     } else if name.contains('*') {
         "Its name is a pattern that no file matches: "
+    } else if name.starts_with('~') {
+        "A shell replaces ~ outside of quotes alone: "
+    } else if name.ends_with(' ') {
+        "Its name ends with a space: "
     } else {
         ""
     }
@@ -61,18 +67,27 @@ pub fn is_plain(name: &str) -> bool {
 }
 
 /// Returns `true` if what isn't the name of a parameter may be a URL, or the name of a file.
-pub fn is_address(name: &str) -> bool {
+fn is_address(name: &str) -> bool {
     name.contains('.') || name.contains('/')
 }
 
-/// Returns what is wrong with a name that was copied with what stands before it in a URL or a page.
-pub fn pasted_advice(name: &str) -> Option<&'static str> {
-    if name.starts_with("?") {
-        Some("A query begins behind the ? of a URL.")
-    } else if name.starts_with("amp;") {
-        Some("Write & in place of &amp;.")
-    } else {
-        None
+/// Returns what is wrong with a part of a query that was copied from a URL, a page or another program.
+pub fn pasted_advice(name: &str, fault: QueryFault) -> Option<&'static str> {
+    match fault {
+        QueryFault::Unknown if name.starts_with('?') => Some(
+            "A query begins behind the ? of a URL.",
+        ),
+        QueryFault::Unknown if name.starts_with("amp;") => Some("Write & in place of &amp;."),
+        QueryFault::Unknown if is_address(name) => Some(
+            "A query precedes the indexes, and a URL in it is written as url=example.com.",
+        ),
+        QueryFault::BadFilter if name.starts_with('=') => Some(
+            "pywb's filter==FIELD:TEXT is is=FIELD:TEXT here.",
+        ),
+        QueryFault::BadFilter if name.starts_with('~') => Some(
+            "pywb's filter=~FIELD:PATTERN has no counterpart here: has=FIELD:TEXT finds a part of a value.",
+        ),
+        _ => None,
     }
 }
 
@@ -107,7 +122,7 @@ pub fn query_advice(fault: QueryFault) -> &'static str {
             "fl is a list, with ',' between, of urlkey, timestamp, original, mimetype, statuscode, digest, length, offset \
              and filename."
         }
-        QueryFault::BadOutput => "output is text, json or cdxj.",
+        QueryFault::BadOutput => "output is text, json or cdxj. docs/RECIPES.md makes CSV of json.",
         QueryFault::BadFlag => "showResumeKey is true or false.",
         QueryFault::NoUrl => "A query has a url or a key, such as url=example.com.",
         QueryFault::UrlAndKey => "A query has a url or a key, and not both.",
@@ -181,7 +196,7 @@ fn no_archive_advice(kind: FileKind) -> &'static str {
             "Its first line ends with LF alone: a WARC file has CR LF after each line of a header."
         }
         FileKind::Arc => ARC,
-        FileKind::Cdx => "It is a CDX file: warcdx-cdx converts it to an index.",
+        FileKind::Cdx => CDX,
         FileKind::ByteOrderMark => BYTE_ORDER_MARK,
         FileKind::Index | FileKind::IndexWithTabs => {
             "It seems to be an index: warcdx query reads indexes."
@@ -273,7 +288,7 @@ fn no_index_advice(kind: FileKind) -> &'static str {
             "It is a WARC file: warcdx index makes an index of it."
         }
         FileKind::Arc => ARC,
-        FileKind::Cdx => "It is a CDX file: warcdx-cdx converts it to an index.",
+        FileKind::Cdx => CDX,
         FileKind::Markup => "It seems to be an HTML or XML file, and not an index.",
         FileKind::ByteOrderMark => BYTE_ORDER_MARK,
         FileKind::Utf16 => UTF_16,

@@ -3,9 +3,7 @@ ghost use Rattle.std.specs.Prelude.{◌≡◌};
 ghost use Rattle.outcomes.specs.Outcome.{outcome_of};
 ghost use Rattle.outcomes.specs.Outcome.{answered_outcome};
 
-use crate::advice::{
-    answer_advice, index_advice, is_address, is_plain, pasted_advice, query_advice,
-};
+use crate::advice::{answer_advice, index_advice, is_plain, pasted_advice, query_advice};
 use crate::console::Console;
 use crate::outcome::{Outcome, outcome_of};
 use crate::refused_part::{RefusedPart, refused_part};
@@ -78,14 +76,8 @@ fn say_part<R: Runtime>(console: &Console<R>, part: RefusedPart<'_>, fault: Quer
     let _ = eprintln!(console.rt; "{program}: query: {cause}");
     let _ = if is_plain(name) {
         eprintln!(console.rt; "  '{name}' {what}. {advice}")
-    } else if fault == QueryFault::Unknown
-        && let Some(pasted) = pasted_advice(name)
-    {
+    } else if let Some(pasted) = pasted_advice(name, fault) {
         eprintln!(console.rt; "  {pasted} {advice}")
-    } else if fault == QueryFault::Unknown && is_address(name) {
-        eprintln!(console.rt;
-            "  A query precedes the indexes, and a URL in it is written as url=example.com. {advice}"
-        )
     } else {
         eprintln!(console.rt; "  {advice}")
     };
