@@ -1,15 +1,16 @@
 """The images and style sheets that are put into a payload."""
 import base64
 import time
+import tracemalloc
 import unittest
-from typing import Optional
+from typing import Any, Optional
 from unittest import mock
 
 from . import browse_support as support
 from .browse_support import Archives, response, revisit
 
 from warcdx_gateway.browse import embedding
-from warcdx_gateway.browse.embedding import MOST_BYTES, filled, page_text, styled
+from warcdx_gateway.browse.embedding import MOST_BYTES, PIECE, page_text, styled
 
 HOME = "http://example.com/a/page"
 DATE, OLD = "2016-03-03T09:34:31Z", "2010-01-01T00:00:00Z"
@@ -26,12 +27,16 @@ def named(url: str, kind: str) -> Optional[str]:
     return f"data:{kind or 'image'},{url}" if url.startswith("http://example.com/") else None
 
 
+def filled(*arguments: Any) -> bytes:
+    return b"".join(embedding.filled(*arguments))
+
+
 class Filling(unittest.TestCase):
     def test_images_and_style_sheets_are_those_of_the_archive(self) -> None:
         base, image, style = "http://example.com", "data:image", "data:text/css"
         for given, wanted in (
             ("<img src=b.png>", f'<img src="{image},{base}/a/b.png">'),
-            ("<IMG alt='>' SRC='/b.png'>", "<IMG alt='>' SRC='/b.png'>"),
+            ("<IMG alt='>' SRC='/b.png'>", f'<IMG alt=\'>\' src="{image},{base}/b.png">'),
             ("<IMG SRC = '/b.png' >", f'<IMG src="{image},{base}/b.png" >'),
             ('<img src="//example.com/b?c&amp;d">', f'<img src="{image},{base}/b?c&d">'),
             ("<img src=http://evil.example/x>", "<img src=http://evil.example/x>"),
@@ -55,6 +60,43 @@ class Filling(unittest.TestCase):
             ('<table style="background:url(&quot;b&quot;)">',
              f'<table style="background:url({image},{base}/a/b)">'),
         ):  # fmt: skip
+            self.assertEqual(wanted.encode(), filled(given.encode(), HOME, named), given)
+
+    def test_tags_are_those_that_a_browser_finds(self) -> None:
+        """What isn't a tag there stays as it is."""
+        image, made = "<img src=b>", '<img src="data:image,http://example.com/a/b">'
+        for before in ("<p title='>'>", '<p title=">">', "<!-- > -->", "<!-->", "<!--->", "<!-- --!>", "<!x '>", "<?x>", "</p title='>'>", "</>",
+                       "<title><img></title >", "<textarea></style></TEXTAREA>", "<script>'<img>'</script>", "<svg><title/></svg>", "<a =' >",
+                       "<p x=y'>", "<p\fx='>'>", "<style>b { a: '<img>' }</style>", "<xmp><img></xmp\t>", "< img src=b>", "<!-- -- > -->"):  # fmt: skip
+            self.assertEqual(f"{before}{made}".encode(), filled(f"{before}{image}".encode(), HOME, named), before)
+        for before in (
+            "<p title='",
+            "<!-- ",
+            "<!-- >-- >",
+            "<title>",
+            "<script></scripts>",
+            "<!x '",
+            "<p x=",
+            "</p x='>",
+            "<plaintext>",
+            "<textarea/>",
+        ):
+            self.assertEqual(f"{before}{image}".encode(), filled(f"{before}{image}".encode(), HOME, named), before)
+        for given, wanted in (
+            ("<img src=b src=c>", f"{made[:-1]} src=c>"), ("<img src src=b>", '<img src src=b>'), ("<img src = b/>", made.replace('b"', 'b/"')),
+            ('<img src="b"alt=x>', made[:-1] + "alt=x>"), ("<img/src=b>", made.replace(" ", "/")), ("<img\nsrc\f=\t'b'/>", made.replace(" ", "\n")[:-1] + "/>"),
+            ("<img src=b?c&copy=d&reg;&amp=e>", made.replace('b"', 'b?c&copy=d®&amp=e"')), 
+            ("<div style='x: url(b)'>", '<div style="x: url(data:image,http://example.com/a/b)">'),
+        ):  # fmt: skip
+            self.assertEqual(wanted.encode(), filled(given.encode(), HOME, named), given)
+
+    def test_what_a_page_says_in_place_of_http_is_left_out(self) -> None:
+        """Its own policy would forbid the images that were put into it."""
+        for given, wanted in (
+            ("<meta http-equiv=Content-Security-Policy content=\"img-src 'none'\">", "<meta>"),
+            ("<META x='>' HTTP-EQUIV='refresh' content='0; url=//evil.example'>", "<META>"),
+            ("<meta charset=utf-8><meta name=viewport content=x>", "<meta charset=utf-8><meta name=viewport content=x>"),
+        ):
             self.assertEqual(wanted.encode(), filled(given.encode(), HOME, named), given)
 
     def test_no_element_makes_a_browser_connect(self) -> None:
@@ -93,7 +135,13 @@ class Filling(unittest.TestCase):
             ("<base target=_top href=/c/><a href=b>", f'<base  href=/c/><a href="{front}/c/b">'),
             ("<abbr href=b>", "<abbr href=b>"),
             ("<a name=b>", "<a name=b>"),
-        ):
+            *[(f"<a href='{each}'>", f"<a href='{each}'>") for each in (
+                "javascript:a(1)", " JavaScript:a", "java\nscript:a", "mailto:a@example.com", "tel:1", "data:text/html,a", "blob:http://a/b", "about:blank",
+                "x-y:z", "")],
+            ("<a href=HTTPS://Example.org/>", '<a href="/web/2016/HTTPS://Example.org/">'),
+            ("<a title='<a href=b>' href=c>", f"<a title='<a href=b>' href=\"{front}/a/c\">"),
+            ("<a href=?b&section=1&amp;c>", f'<a href="{front}/a/page?b&amp;section=1&amp;c">'),
+        ):  # fmt: skip
             found = filled(given.encode(), HOME, lambda url, kind: None, linked)
             self.assertEqual(wanted.encode(), found, given)
         self.assertEqual(b"<a href=b target=c>", filled(b"<a href=b target=c>", HOME, named))
@@ -136,9 +184,21 @@ class Filling(unittest.TestCase):
             b"<link>", b"<li<link>nk ", b"a=", b" a =", b"' ",
         ):  # fmt: skip
             for before in (b"", b"<style>", b"<img "):
-                start = time.process_time()
-                filled(before + part * (LONG // len(part)), HOME, lambda url, kind: None, str)
+                start, steps = time.process_time(), mock.Mock()
+                filled(before + part * (LONG // len(part)), HOME, lambda url, kind: None, str, steps)
                 self.assertLess(time.process_time() - start, 5, (before, part))
+                if part.endswith(b">") and part != b"<style>" and not before:
+                    self.assertGreater(steps.call_count, LONG // PIECE - 2, part)
+
+    def test_a_page_of_many_links_takes_little_memory(self) -> None:
+        page, size = b"<a href=b>" * 400_000, 0
+        tracemalloc.start()
+        self.addCleanup(tracemalloc.stop)
+        for piece in embedding.filled(page, HOME, named, lambda url: f"/web/20160303000000/{url}"):
+            size += len(piece)
+            self.assertLess(len(piece), 2 * PIECE)
+        self.assertGreater(size, 5 * len(page))
+        self.assertLess(tracemalloc.get_traced_memory()[1], 4 * len(page))
 
 
 class Parts(support.Pages):

@@ -60,7 +60,7 @@ class Sent:
             found.setsockopt(socket.SOL_SOCKET, socket.SO_LINGER, struct.pack("ii", 1, 0))
 
 
-def streamed(pieces: Generator[bytes, None, None], headers: list[tuple[str, str]], work: Work) -> Response:
+def streamed(pieces: Generator[bytes, None, None], headers: list[tuple[str, str]], work: Work, status: int = 200) -> Response:
     """Returns an answer whose pieces are made when they are sent.
 
     The first ones are made at once. So what fails until then has a status, and a short answer has
@@ -72,7 +72,7 @@ def streamed(pieces: Generator[bytes, None, None], headers: list[tuple[str, str]
         size += len(piece)
         if size > MOST_FREE:
             work.expect_slot()
-            response = Response(itertools.chain(begun, pieces), 200, headers)
+            response = Response(itertools.chain(begun, pieces), status, headers)
             response.call_on_close(pieces.close)
             return response
-    return Response(b"".join(begun), 200, headers)
+    return Response(b"".join(begun), status, headers)

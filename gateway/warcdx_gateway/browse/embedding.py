@@ -6,10 +6,11 @@ Elements `link` but for style sheets go, and frames are empty, as a browser woul
 server for some of them. Other URLs stay as they are, and lead nowhere.
 """
 import base64
+import functools
 import html
 import re
 import time
-from collections.abc import Callable
+from collections.abc import Callable, Generator
 from typing import Optional
 from urllib.parse import urljoin
 
@@ -23,6 +24,7 @@ from .comparing import META_CHARSET, META_SEARCHED
 from .places import original_of
 from .record_page import target_of
 from .searching import NotShown
+from .tags import ATTRIBUTE, attributes_of, tags_of, value_of
 
 MOST_PARTS = 60  # of a page
 MOST_PART = 1 << 20  # bytes of one
@@ -30,14 +32,15 @@ MOST_BYTES = 8 << 20  # of all `data:` URLs of a page, each as often as it is us
 SECONDS = 3.0  # for all parts of a page
 MOST_TAG = 1 << 16  # bytes
 MOST_URL = 4000  # characters
+PIECE = 1 << 16  # bytes of a page that are read or made between two steps
 _STYLE = "text/css"
 _IMAGES = frozenset(
     "image/avif image/bmp image/gif image/jpeg image/jpg image/png image/svg+xml image/webp "
     "image/vnd.microsoft.icon image/x-icon".split()
 )
-# Tags with attributes that have the URL of an image or a style sheet.
-_TAG = re.compile(rb"<(img|input|link|source|body|table|td|th|style|base|a|area)(?=[\s/>])", re.IGNORECASE)
-_ATTRIBUTE = re.compile(rb"""(?<=[\s"'/])([^\s"'/=<>]+)\s*=\s*("[^"]*"|'[^']*'|[^\s"'>]+)""")
+_FILLED = frozenset((b"img", b"input", b"link", b"source", b"body", b"table", b"td", b"th"))  # with URLs of images or style sheets
+_LINKS = frozenset((b"a", b"area", b"base"))  # with a target, or a URL that leads to another page
+_PAGES = ("http://", "https://", "ftp://")
 # Elements for which browsers connect to servers, whatever the policy of the page is, and what takes the place of each.
 _CONNECTING = re.compile(rb"<(link|iframe|frame)(?=[\s/>])", re.IGNORECASE)
 _REPLACED = {b"link": b"<meta>", b"iframe": b"<iframe hidden>", b"frame": b"<frame>"}
@@ -46,7 +49,6 @@ _MARKS = ((b"\xef\xbb\xbf", "utf-8-sig"), (b"\xff\xfe", "utf-16"), (b"\xfe\xff",
 _LATIN = "windows-1252"  # which browsers take for these names, and for none
 _LATIN_NAMES = ("iso-8859-1", "us-ascii")
 _IMPORT = re.compile(rb"""@import\s+("[^"\n]*"|'[^'\n]*')""", re.IGNORECASE)
-_END_OF_STYLE = re.compile(rb"</style", re.IGNORECASE)
 
 Url = Callable[[str, str], Optional[str]]
 Linked = Callable[[str], str]
@@ -101,14 +103,17 @@ class Parts:
         return f"data:{record.kind};base64,{base64.b64encode(content).decode()}"
 
 
-def embedded(collection: Collection, capture: Capture, record: reading.Read, linked: Optional[Linked] = None) -> bytes:
-    """Returns the payload of a page of HTML with its images and style sheets, in UTF-8.
+def embedded(
+    collection: Collection, capture: Capture, record: reading.Read, linked: Optional[Linked] = None
+) -> Generator[bytes, None, None]:
+    """Yields the payload of a page of HTML with its images and style sheets, in UTF-8.
 
     `linked` returns the URL to which a link leads. Without it links stay as they are.
     """
     parts = Parts(collection, capture.timestamp)
     page = page_text(record.payload.content, record.charset).encode()
-    return filled(page, target_of(record.head) or capture.original, parts.url, linked)
+    base = target_of(record.head) or capture.original
+    yield from filled(page, base, parts.url, linked, collection.work.go_on)
 
 
 def page_text(content: bytes, charset: Optional[str]) -> str:
@@ -135,47 +140,57 @@ def page_text(content: bytes, charset: Optional[str]) -> str:
         return content.decode(_LATIN, errors="replace")
 
 
-def filled(page: bytes, base: str, url: Url, linked: Optional[Linked] = None) -> bytes:
-    """Returns a page in which the URLs of images and style sheets are those that `url` returns.
+def filled(
+    page: bytes, base: str, url: Url, linked: Optional[Linked] = None, go_on: Callable[[], None] = lambda: None
+) -> Generator[bytes, None, None]:
+    """Yields the pieces of a page in which the URLs of images and style sheets are those that `url` returns.
 
-    The page is read from tag to tag. An attribute `srcset` is left empty, and `target` is left out
-    of links.
+    An attribute `srcset` is left empty, and `target` is left out of links. A policy and whatever
+    else a page says in place of HTTP is left out. `go_on` is called before each step.
     """
-    page = unconnected(page)
-    done, at, has_base = [], 0, False
-    while found := _TAG.search(page, at):
-        end = page.find(b">", found.end())
-        if end < 0:
-            break
-        name, tag = found[1].lower(), page[found.end() : end]
-        if len(tag) > MOST_TAG:
-            done.append(page[at:end])
-            at = end
+    page = unconnected(page, go_on)
+    made, at, begun, has_base = bytearray(), 0, 0, False
+    for tag in tags_of(page):
+        if tag.end - begun > PIECE or len(made) > PIECE:
+            go_on()
+            begun = tag.end
+        if len(made) > PIECE:
+            yield bytes(made)
+            made.clear()
+        if tag.end - tag.start > MOST_TAG:
             continue
-        done += page[at : found.end()], _tag(name, tag, base, url, linked)
-        at = end
-        if name == b"base" and not has_base and (href := attributes_of(tag).get("href")):
+        text = page[tag.start : tag.end]
+        if tag.name == b"meta" and "http-equiv" in attributes_of(text):
+            made += page[at : tag.start]
+            at = tag.end
+        elif tag.name in _FILLED or b"url(" in text or linked is not None and tag.name in _LINKS:
+            made += page[at : tag.start] + _attributes(tag.name, text, base, url, linked)
+            at = tag.end
+        if tag.name == b"base" and not has_base and (href := attributes_of(text).get("href")):
             base, has_base = joined(base, href), True
-        elif name == b"style":
-            close = _END_OF_STYLE.search(page, end)
-            at = close.start() if close else len(page)
-            done.append(styled(page[end:at], base, url))
-    done.append(page[at:])
-    return b"".join(done)
+        elif tag.name == b"style" and tag.raw_end > tag.end + 1:
+            made += page[at : tag.end] + styled(page[tag.end : tag.raw_end], base, url)
+            at = tag.raw_end
+    made += page[at:]
+    for start in range(0, len(made), PIECE):
+        yield bytes(made[start : start + PIECE])
 
 
-def unconnected(page: bytes) -> bytes:
+def unconnected(page: bytes, go_on: Callable[[], None] = lambda: None) -> bytes:
     """Returns a page without what makes a browser connect to a server.
 
     What only seems to be such a tag, as in a comment, is replaced too, since a browser may read it
     otherwise. A tag is replaced and never left out: what is around it could become one.
     """
-    done, at = list[bytes](), 0
+    made, at, begun = bytearray(), 0, 0
     while (found := _CONNECTING.search(page, at)) and (end := page.find(b">", found.end())) >= 0:
         name, tag = found[1].lower(), page[found.end() : end]
-        done += page[at : found.start()], (name == b"link" and _style_sheet(tag)) or _REPLACED[name]
+        made += page[at : found.start()] + ((name == b"link" and _style_sheet(tag)) or _REPLACED[name])
         at = end + 1
-    return b"".join([*done, page[at:]])
+        if at - begun > PIECE:
+            go_on()
+            begun = at
+    return bytes(made) + page[at:]
 
 
 def _style_sheet(tag: bytes) -> bytes:
@@ -191,51 +206,44 @@ def _style_sheet(tag: bytes) -> bytes:
     return f"<link{kept}>".encode(errors="replace")
 
 
-def attributes_of(tag: bytes) -> dict[str, str]:
-    """Returns the attributes of a tag, of which the first one of a name counts."""
-    found: dict[str, str] = {}
-    for each in _ATTRIBUTE.finditer(tag):
-        found.setdefault(each[1].lower().decode(errors="replace"), text_of(each[2]))
-    return found
-
-
-def text_of(value: bytes) -> str:
-    """Returns the value of an attribute without its quotes and escapes. A long one is left out."""
-    if len(value) > MOST_URL:
-        return ""
-    return html.unescape(value.strip(b"\"'").decode(errors="replace")).strip(" \t\r\n\f\"'")
-
-
-def _tag(name: bytes, tag: bytes, base: str, url: Url, linked: Optional[Linked]) -> bytes:
-    is_sheet, is_link = name == b"link", name in (b"a", b"area")
-    filled_in = (b"href",) if is_sheet else () if is_link or name == b"base" else (b"src", b"background")
+def _attributes(name: bytes, text: bytes, base: str, url: Url, linked: Optional[Linked]) -> bytes:
+    """Returns the attributes of a tag with other URLs. Of those of one name the first one counts."""
+    is_sheet, is_link, seen = name == b"link", name in _LINKS, set[bytes]()
 
     def attribute(found: "re.Match[bytes]") -> bytes:
-        field, value = found[1].lower(), found[2]
+        field, value = found[1].lower(), found[2] or b""
+        made = None
+        if field in seen:
+            return found[0]
+        seen.add(field)
         if field == b"srcset":
             return b'srcset=""'
         if field == b"style":
             return b'style="' + styled(value.strip(b"\"'"), base, url).replace(b'"', b"'") + b'"'
-        if field == b"target":
-            return b"" if linked is not None and (is_link or name == b"base") else found[0]
-        if is_link and field == b"href" and linked is not None:
-            href = text_of(value)
-            if href[:1] != "#" and (where := joined(base, href)):
-                text = html.escape(linked(where) + "".join(href.partition("#")[1:]))
-                return b'href="' + text.encode(errors="replace") + b'"'
-        if field not in filled_in:
-            return found[0]
-        made = url(joined(base, text_of(value)), _STYLE if is_sheet else "")
-        return found[0] if made is None else field + b'="' + made.encode() + b'"'
+        if field == b"target" and is_link and linked is not None:
+            return b""
+        if field == b"href" and is_link and linked is not None and name != b"base":
+            made = _link(base, value_of(value), linked)
+        elif field == b"href" and is_sheet or field in (b"src", b"background") and name in _FILLED:
+            made = url(joined(base, value_of(value)), _STYLE if is_sheet else "")
+        return found[0] if made is None else field + b'="' + made.encode(errors="replace") + b'"'
 
-    return _ATTRIBUTE.sub(attribute, tag)
+    return ATTRIBUTE.sub(attribute, text)
+
+
+def _link(base: str, href: str, linked: Linked) -> Optional[str]:
+    """Returns where a link leads, or None if that isn't another page, as of `#part` or `mailto:`."""
+    where = joined(base, href) if href[:1] != "#" else ""
+    if not where.lower().startswith(_PAGES):
+        return None
+    return html.escape(linked(where) + "".join(href.partition("#")[1:]))
 
 
 def styled(style: bytes, base: str, url: Url) -> bytes:
     """Returns a style sheet in which the URLs of images are those that `url` returns."""
 
     def imported(found: "re.Match[bytes]") -> bytes:
-        made = url(joined(base, text_of(found[1])), _STYLE)
+        made = url(joined(base, _named(found[1])), _STYLE)
         return found[0] if made is None else b'@import "' + made.encode() + b'"'
 
     style = _IMPORT.sub(imported, style)
@@ -245,13 +253,19 @@ def styled(style: bytes, base: str, url: Url) -> bytes:
         is_import = style[max(0, start - 20) : start].rstrip().lower().endswith(b"@import")
         made = None
         if len(value) <= MOST_URL and not value.startswith(b"data:"):
-            made = url(joined(base, text_of(value)), _STYLE if is_import else "")
+            made = url(joined(base, _named(value)), _STYLE if is_import else "")
         done.append(style[at : start + 4] + (value if made is None else made.encode()))
         at = end
     done.append(style[at:])
     return b"".join(done)
 
 
+def _named(value: bytes) -> str:
+    """Returns the URL of a style sheet's `url()`, whose quotes may be references in an attribute."""
+    return value_of(value).strip(" \t\r\n\f\"'")
+
+
+@functools.lru_cache(256)
 def joined(base: str, url: str) -> str:
     """Returns an absolute URL without its fragment, or no text if there is none."""
     try:

@@ -2,7 +2,7 @@
 import contextlib
 import hashlib
 import re
-from collections.abc import Callable, Iterator
+from collections.abc import Callable, Generator, Iterator
 from dataclasses import dataclass, replace
 from typing import Optional
 
@@ -17,6 +17,7 @@ from warcdx.record import RecordStream, without_brackets
 from ..application import has_tag
 from ..collection import Collection
 from ..history import Ask
+from ..sending import streamed
 from ..work import Work
 from . import reading, responses
 from .places import before, original_of
@@ -44,12 +45,12 @@ _TOKEN = re.compile(r"[!#$%&'*+.^_`|~0-9A-Za-z-]{1,100}")
 class Window:
     """How a browser shows a capture in a window of its own: a page of HTML at another URL.
 
-    `is_there` is whether this is that URL. `page` gives the page with what is put into it.
+    `is_there` is whether this is that URL. `page` gives the pieces of the page with what is put into it.
     """
 
     url: str
     is_there: bool
-    page: Callable[[reading.Read], bytes]
+    page: Callable[[reading.Read], Generator[bytes, None, None]]
 
 
 class RawCapture:
@@ -116,9 +117,9 @@ class RawCapture:
         payload = reading.shown_payload(record, self._collection.work)
         if payload.fault and not payload.content:
             raise NotShown("The payload can't be unpacked.", payload.fault, 422)
-        page = window.page(replace(read, payload=payload))
         self._stack.close()
-        return Response(page, status, {**responses.payload_headers(), **fields}, content_type=reading.HTML_SHOWN)
+        headers = {**responses.payload_headers(), **fields, "Content-Type": reading.HTML_SHOWN}
+        return streamed(window.page(replace(read, payload=payload)), [*headers.items()], self._collection.work, status)
 
     def _with_payload(self, record: RecordStream) -> tuple[RecordStream, Optional[HttpHead]]:
         """Returns the record with the payload, and the head that is of it.

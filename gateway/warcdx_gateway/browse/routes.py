@@ -13,6 +13,7 @@ from warcdx import Error, Fault, Refused, ReplyTooLate, ReplyTooLong
 from ..application import Gateway, rule
 from ..collection import Collection
 from ..refusal import Refusal
+from ..sending import streamed
 from . import dates, embedding, layout, reading, responses
 from .compare_page import compare_page
 from .places import Place
@@ -144,10 +145,10 @@ def payload(collection: Collection, request: Request) -> Response:
     if kind is None:
         why = "Its type isn't one that these pages show. It can be saved."
         raise NotShown("The payload isn't shown.", why, 415)
-    content = record.payload.content
+    headers = {**responses.payload_headers(), "Content-Type": kind}
     if record.is_html:
-        content = embedding.embedded(collection, capture, record)
-    return Response(content, 200, responses.payload_headers(), content_type=kind)
+        return streamed(embedding.embedded(collection, capture, record), [*headers.items()], collection.work)
+    return Response(record.payload.content, 200, headers)
 
 
 def download(collection: Collection, request: Request) -> Response:
