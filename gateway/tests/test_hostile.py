@@ -376,7 +376,7 @@ class Requests(Case):
     def test_a_host_of_another_name_is_refused(self) -> None:
         for host, status in (
             ("localhost", 200), ("localhost:80", 200), ("127.0.0.1", 200), ("[::1]:8080", 200), ("LOCALHOST.", 200),
-            ("evil.example", 421), ("evil.example\\@localhost", 421), ("localhost/x", 421), ("localhost#x", 421),
+            ("", 421), ("evil.example", 421), ("evil.example\\@localhost", 421), ("localhost/x", 421), ("localhost#x", 421),
             ("localhost?x", 421), ("x@localhost", 421), ("localhost:x", 421), ("localhost.evil.example", 421), ("127.0.0.1.evil.example", 421), ("[", 421),
         ):  # fmt: skip
             with connected(self.server) as client:

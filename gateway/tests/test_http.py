@@ -222,6 +222,8 @@ class Limits(Case):
         self.assertEqual(("", 52), (found[50], len(found)))
         self.assertEqual(20, len(server.ask("/cdx?url=example.com/*&limit=-20").text.splitlines()))
         self.assertIn("in this order it is at most 20", server.ask("/cdx?url=example.com/*&limit=-21").text)
+        for query, count in (("", 10), ("&page=0", 100), ("&page=0&limit=2", 2), ("&page=0&filter=length:.*", 100)):
+            self.assertEqual(count, len(server.ask(f"/cdx?url=example.com/*{query}").text.splitlines()), query)
 
     def test_what_would_hold_too_much_is_refused(self) -> None:
         self.put(lines(100))

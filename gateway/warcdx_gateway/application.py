@@ -236,7 +236,7 @@ class Gateway:
 
         The name of the host is the one that a browser looked up.
         """
-        host = host_of(request.environ.get("HTTP_HOST") or "localhost")
+        host = host_of(request.environ.get("HTTP_HOST", "localhost"))
         if self.settings.is_local and is_loopback(host):
             return
         if not host or {host, "*"}.isdisjoint(self.settings.hosts):

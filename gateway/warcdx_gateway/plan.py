@@ -212,7 +212,8 @@ def order_of(given: Given, limits: Limits) -> tuple[Order, Optional[int]]:
     text = given.values.get("limit")
     if text is None and given.is_true("fastLatest"):
         text = "-1"
-    limit = (limits.usual or None) if text is None else min(abs(int(text)), limits.largest)
+    usual = limits.usual if "page" not in given.values else 0  # a page has its own size, and all of them are the answer
+    limit = usual or None if text is None else min(abs(int(text)), limits.largest)
     order = sort_of(given)
     if text is not None and text.startswith("-"):
         if order is not Order.FORWARD:
