@@ -86,11 +86,12 @@ def link_to(built: pathlib.Path) -> pathlib.Path:
 
 
 def build(built: pathlib.Path) -> None:
-    """Builds a program of this repository."""
-    if built == BUILT:
-        subprocess.run([ROOT / "warcdx", "--help"], stdout=subprocess.DEVNULL, check=True)
-    else:
-        subprocess.run([ROOT / "tools/build.py", built.name], check=True)
+    """Builds a program of this repository. If that fails, the script ends with the status of the build, which has said why."""
+    words = [ROOT / "warcdx", "--help"] if built == BUILT else [ROOT / "tools/build.py", built.name]
+    status = subprocess.run(words, stdout=subprocess.DEVNULL if built == BUILT else None).returncode
+    if status:
+        print("name a PROGRAM, such as the one of a release, to test it without a build", file=sys.stderr)
+        sys.exit(status if status > 0 else 1)
 
 
 def is_current(built: pathlib.Path = BUILT) -> bool:

@@ -175,6 +175,7 @@ def check_ends(report: Report, checkout: Checkout) -> None:
     expect("files of 1,000 bytes at most", checkout.build(script, limit=(resource.RLIMIT_FSIZE, 1000), delay=LONG), 3, "File too large")
     expect("30 MB of memory", checkout.build(script, limit=(resource.RLIMIT_AS, 30_000_000)), 3, "Memory")
     expect("no rt", checkout.build(script, path="/usr/bin:/bin"), 3, "rt is not on the PATH")
+    expect("no rt, by tests/run", checkout.build("tests/run", "prose", path="/usr/bin:/bin"), 3, "name a PROGRAM, such as the one of a release")
     with open("/dev/full", "wb") as full:
         expect("a full standard error", checkout.build(script, error=full.fileno()), 0, "")
     expect("no flock, by ./warcdx", checkout.build("./warcdx", "list", path=checkout.path_of("bash", "dirname", "find", "readlink")), 3, "flock is missing")
