@@ -246,6 +246,14 @@ class Messages(Runs):
         self.assertEqual((0, ""), (status, found))
         self.assertIn("warcdx-update: all.cdxj.d: 1 capture of 1 archive (1 indexed)\n", said)
 
+    def test_a_folder_that_was_moved(self) -> None:
+        (self.folder / "data").mkdir()
+        self.assertEqual(0, self.run_on_program("update", "--quiet", "data", "all.cdxj.d")[0])
+        (self.folder / "data").rename(self.folder / "moved")
+        status, found, said = self.run_on_program("update", "moved", "all.cdxj.d")
+        self.assertEqual((3, ""), (status, found))
+        self.assertIn("data; give another INDEX, or, if that was moved, write its new path into state.db as docs/FOLDER.md says\n", said)
+
     def test_several_archives_for_one_folder(self) -> None:
         status, found, said = self.run_on_program("update", "a.warc", "b.warc", "all.cdxj")
         self.assertEqual((2, ""), (status, found))

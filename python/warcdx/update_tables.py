@@ -86,7 +86,8 @@ class Settings(NamedTuple):
     def expect(self, made: "Settings") -> None:
         """Raises CannotUpdate if an index was made with other settings."""
         if made.folder != text_of(self.folder):
-            raise CannotUpdate(f"it is the index of another folder, {made.folder}; give another INDEX")
+            moved = "or, if that was moved, write its new path into state.db as docs/FOLDER.md says"
+            raise CannotUpdate(f"it is the index of another folder, {made.folder}; give another INDEX, {moved}")
         if made.recursive != self.recursive:
             how = "with --recursive: give it too" if made.recursive else "without --recursive: leave it out"
             raise CannotUpdate(f"it was made {how}, or give another INDEX")
