@@ -92,6 +92,13 @@ class Manner(Runs):
             status, found, said = self.run_command(sys.executable, PYTHON / f"bin/warcdx-{name}", *words)
             self.assertEqual((2, ""), (status, found), said)
 
+    def test_a_file_whose_name_begins_with_a_hyphen(self) -> None:
+        """A pattern of the shell may give it."""
+        self.put("", "-jx.warc")
+        status, found, said = self.run_command(sys.executable, PYTHON / "bin/warcdx-verify", "-jx.warc")
+        self.assertEqual((2, ""), (status, found))
+        self.assertIn("unknown option -j; the file of this name is ./-jx.warc; '", said)
+
     def test_options_stand_before_or_behind_files(self) -> None:
         archive, names = SAMPLES / "wget.warc", [f"--program={PROGRAM}", "--quiet"]
         command = (sys.executable, PYTHON / "bin/warcdx-verify")

@@ -105,7 +105,7 @@ class Parser(argparse.ArgumentParser):
                 break
             is_option = word.startswith("-") and word != "-"
             if is_option:
-                self._expect_known(word.partition("=")[0] if word.startswith("--") else word[:2])
+                self._expect_known(word)
             (options if is_option else files).append(word)
             action = self._option_string_actions.get(word)
             if action is not None and action.nargs is None:
@@ -114,9 +114,11 @@ class Parser(argparse.ArgumentParser):
             return words  # an option that takes files takes all that follow it
         return [*files, *options]
 
-    def _expect_known(self, option: str) -> None:
+    def _expect_known(self, word: str) -> None:
+        option = word.partition("=")[0] if word.startswith("--") else word[:2]
         if option not in self._option_string_actions:
-            self.error(f"unknown option {option}; {self._advice_on_option(option)}")
+            way = f"the file of this name is ./{word}" if os.path.lexists(word) else self._advice_on_option(option)
+            self.error(f"unknown option {option}; {way}")
 
     def _advice_on_option(self, option: str) -> str:
         """Returns what to write in place of an option that isn't known."""
