@@ -2,10 +2,10 @@
 
 usage: warcdx-verify [OPTION..] FILE..
 
-FILE is an archive in WARC, plain or compressed with a member of gzip for each
-record; - is standard input. Each record's WARC-Block-Digest is compared with
-the block, and its WARC-Payload-Digest with the payload. The algorithms are
-sha1, sha256, sha512 and md5. Values are in base 32 or in hexadecimal digits.
+FILE is a WARC file, plain or compressed with a gzip member for each record; -
+is standard input. Each record's WARC-Block-Digest is compared with the block,
+and its WARC-Payload-Digest with the payload. The algorithms are sha1, sha256,
+sha512 and md5. Values are in base 32 or in hexadecimal digits.
 
 Prints a line for each record, with its offset and the verdicts on both:
 
