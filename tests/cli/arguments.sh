@@ -70,6 +70,8 @@ of_update() { option "$1" "'warcdx-update' indexes folders, several archives at 
 of_query() { option "$1" "the parameters of a query stand in its text, as 'url=example.com&limit=5'"; }
 sorted() { option "$1" "'index' and 'merge' write sorted lines"; }
 quiet() { option "$1" "standard error has faults alone: write '2> FILE' behind the command"; }
+of_format() { option "$1" "'index' writes CDXJ, and a query with 'output=json' JSON"; }
+of_gateway() { option "$1" "warcdx-gateway answers over HTTP, and 'serve' line by line"; }
 no_command() { option "$1" "a command is written without '-', as in 'list FILE'"; }
 
 option() { # OPTION TIP
@@ -99,7 +101,10 @@ no_index_asked=$(refusal "the following required arguments were not provided:"$'
 no_query_asked=$(lines "$no_index_asked" "" "  tip: a query precedes the indexes, as in 'query url=example.com INDEX'")
 unquoted=$(lines "$no_index_asked" "" "  tip: a query stands in single quotes, since & ends a command of a shell")
 no_pages=$(refusal "the following required arguments were not provided:"$'\n  <SIZES>\n  <QUERY>\n  <INDEX>...' "pages <SIZES> <QUERY> <INDEX>...")
-no_query_of_pages=$(refusal "the following required arguments were not provided:"$'\n  <QUERY>\n  <INDEX>...' "pages <SIZES> <QUERY> <INDEX>...")
+no_query_of_pages=$(lines "$(refusal "the following required arguments were not provided:"$'\n  <QUERY>\n  <INDEX>...' "pages <SIZES> <QUERY> <INDEX>...")" "" \
+    "  tip: sizes and a query precede the files, as in 'scan 100 url=example.com FILE'")
+no_sized=$(lines "$(refusal "the following required arguments were not provided:"$'\n  <QUERY>\n  <WARC>...' "scan <SIZES> <QUERY> <WARC>...")" "" \
+    "  tip: sizes and a query precede the files, as in 'scan 100 url=example.com FILE'")
 no_scan=$(refusal "the following required arguments were not provided:"$'\n  <SIZES>\n  <QUERY>\n  <WARC>...' "scan <SIZES> <QUERY> <WARC>...")
 no_get=$(refusal "the following required arguments were not provided:"$'\n  <OFFSET>\n  <WARC>' "get <OFFSET> <WARC>")
 no_archive=$(refusal "the following required arguments were not provided:"$'\n  <WARC>' "get <OFFSET> <WARC>")
@@ -130,6 +135,7 @@ for sizes in "" 0 1,0 "1," ,1 1,,2 +1 1.5 x 1000001 00000001 "1 2" "1;2" "$(prin
     check "pages $(head --bytes=20 <<< "$sizes")"  "" "$(no_sizes "$sizes")"   2 pages "$sizes" url=a missing
 done
 check "scan alone"                      "" "$no_scan"                      2 scan
+check "scan of an archive alone"        "" "$no_sized"                     2 scan m.warc
 check "pages without sizes"             "" "$(no_sizes url=a)"             2 pages url=a missing
 check "scan without sizes"              "" "$(no_sizes url=a)"             2 scan url=a missing
 check "scan 0"                          "" "$(no_sizes 0)"                 2 scan 0 url=a missing
@@ -154,6 +160,9 @@ check "--quiet"                         "" "$(quiet --quiet)"              2 lis
 check "-v"                              "" "$(quiet -v)"                   2 verify -v m.warc
 check "-s"                              "" "$(sorted -s)"                  2 index -s m.warc
 check "--sort"                          "" "$(sorted --sort)"              2 index --sort m.warc
+check "--json"                          "" "$(of_format --json)"           2 list --json m.warc
+check "--port"                          "" "$(of_gateway --port)"          2 serve a.cdxj --port 8080
+check "--offset=0"                      "" "$(misplaced_offset --offset=0)" 2 get --offset=0 r.warc
 check "--surt"                          "" "$(unexpected --surt)"          2 index --surt m.warc
 check "--offset"                        "" "$(misplaced_offset --offset)"  2 get --offset 0 m.warc
 check "--from"                          "" "$(of_query --from)"            2 query url=a a.cdxj --from 2016

@@ -381,6 +381,7 @@ advises "why: 1,025 indexes"        "At most 1024 files are taken: merge the ind
 parameters="A & in a URL is written as %26. The parameters are url, key, matchType, from, to, filter, is, isnot, has, hasnot, limit, resumeKey, \
 showResumeKey, fl, output and collapse. warcdx-gateway has others too."
 advises "why: an unknown parameter" "'page' isn't a parameter. $parameters"                             1 query "url=a&page=0" sorted.cdxj
+advises "why: a field as a parameter" "'statuscode' is a field, for filter=FIELD:TEXT. $parameters"      1 query "url=a&statuscode=200" sorted.cdxj
 for query in "url=a&%70age=0" $'url=a&x\nwarcdx: y: fault 0 Read=1'; do
     advises "why: $(head --lines=1 <<< "$query")" "$parameters"                                         1 query "$query" sorted.cdxj
 done

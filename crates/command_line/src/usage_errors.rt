@@ -105,6 +105,11 @@ fn no_argument(alloc: Global, words: &[String], text: String) -> WordsFault
             &text,
             "a query precedes the indexes, as in 'query url=example.com INDEX'",
         ),
+        [command, _file] if takes_sizes(command) => with_more(
+            alloc,
+            &text,
+            "sizes and a query precede the files, as in 'scan 100 url=example.com FILE'",
+        ),
         _ => WordsFault::Usage(text),
     }
 }
@@ -173,13 +178,17 @@ fn tip_for(option: &str) -> &'static str {
         "'index' and 'merge' write sorted lines"
     } else if matches!(option, "-q" | "--quiet" | "-v" | "--verbose") {
         "standard error has faults alone: write '2> FILE' behind the command"
+    } else if matches!(option, "--json" | "--cdxj" | "--cdx" | "--format") {
+        "'index' writes CDXJ, and a query with 'output=json' JSON"
+    } else if matches!(option, "-p" | "--port" | "--bind") {
+        "warcdx-gateway answers over HTTP, and 'serve' line by line"
     } else if is_of_query(option) {
         "the parameters of a query stand in its text, as 'url=example.com&limit=5'"
     } else if is_command(option) {
         "a command is written without '-', as in 'list FILE'"
     } else if is_negative(option) {
         "an offset, a length and a size are numbers without '-'"
-    } else if option == "--offset" {
+    } else if option.starts_with("--offset") {
         "an offset is written alone, as in 'get OFFSET FILE'"
     } else {
         "'--help' prints the options; a file whose name begins with '-' is written './-name'"
@@ -201,7 +210,6 @@ fn is_of_query(option: &str) -> bool {
             | "--match-type"
             | "--matchType"
             | "--collapse"
-            | "--json"
     )
 }
 

@@ -14,7 +14,7 @@ pub struct RefusedPart<'a> {
 /// named.
 pub fn refused_part(text: &str, fault: QueryFault) -> Option<RefusedPart<'_>> {
     match fault {
-        QueryFault::Unknown => part(unknown_parameter(text), "isn't a parameter"),
+        QueryFault::Unknown => parameter_part(unknown_parameter(text)),
         QueryFault::RepeatedParameter => part(repeated_parameter(text), "is given twice"),
         QueryFault::BadField => field_part(unknown_field(text)),
         QueryFault::BadFilter => field_part(unknown_condition(text)),
@@ -31,6 +31,14 @@ fn part<'a>(name: Option<&'a str>, what: &'static str) -> Option<RefusedPart<'a>
     match name {
         Some(name) => Some(RefusedPart { name, what }),
         None => None,
+    }
+}
+
+/// Returns a part that is no parameter, and what to write if it is a field.
+fn parameter_part(name: Option<&str>) -> Option<RefusedPart<'_>> {
+    match name {
+        Some(field) if is_field(field) => part(name, "is a field, for filter=FIELD:TEXT"),
+        _ => part(name, "isn't a parameter"),
     }
 }
 
