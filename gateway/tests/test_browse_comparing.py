@@ -11,7 +11,7 @@ from . import browse_support as support
 from .browse_support import Archives, response, text_of
 
 from warcdx_gateway.browse import compare_page, comparing
-from warcdx_gateway.browse.comparing import compare, lines_of, text_of as decoded
+from warcdx_gateway.browse.comparing import compare, lines_of
 
 HOME = "http://example.com/"
 
@@ -36,18 +36,6 @@ class Texts(unittest.TestCase):
 
     def test_plain_text_has_its_lines(self) -> None:
         self.assertEqual((["a", "  b", "", "<p>"], False), lines_of("a  \r\n  b\n\n<p>", False))
-
-    def test_bytes_are_decoded_by_what_names_their_characters(self) -> None:
-        for content, charset, is_html, text in (
-            ("é".encode(), None, False, "é"),
-            (b"\xe9", "iso-8859-1", False, "é"),
-            (b"<meta charset='koi8-r'>\xc1", None, True, "<meta charset='koi8-r'>а"),
-            (b"\xe9", None, True, "\ufffd"),
-            (b"a", "rot13", False, "a"),
-            (b"<meta charset=hex>61", None, True, "<meta charset=hex>61"),
-            (b"<meta charset=idna>\xff", None, True, "<meta charset=idna>\ufffd"),
-        ):
-            self.assertEqual(text, decoded(content, charset, is_html))
 
     def test_long_texts_are_cut(self) -> None:
         self.assertEqual((4000, True), (len(lines_of("a\n" * 5000, False)[0]), lines_of("a\n" * 5000, False)[1]))
@@ -137,7 +125,7 @@ class Hostile(support.Pages):
             self.assertRaises(compare_page.NotShown, compare_page.run, [])
 
     def test_the_process_reads_what_is_written_for_it(self) -> None:
-        given = io.BytesIO(json.dumps({"sizes": [1, 1], "charsets": [None, None], "html": [False, False]}).encode() + b"\nab")
+        given = io.BytesIO(json.dumps({"sizes": [1, 1], "html": [False, False]}).encode() + b"\nab")
         output = io.StringIO()
         with mock.patch("sys.stdin", mock.Mock(buffer=given)), mock.patch("sys.stdout", output), mock.patch("resource.setrlimit"):
             comparing.main()

@@ -10,7 +10,8 @@ from . import browse_support as support
 from .browse_support import Archives, response, revisit
 
 from warcdx_gateway.browse import embedding
-from warcdx_gateway.browse.embedding import MOST_BYTES, PIECE, page_text, styled
+from warcdx_gateway.browse.charsets import charset_of, text_of
+from warcdx_gateway.browse.embedding import MOST_BYTES, PIECE, styled
 
 HOME = "http://example.com/a/page"
 DATE, OLD = "2016-03-03T09:34:31Z", "2010-01-01T00:00:00Z"
@@ -148,22 +149,24 @@ class Filling(unittest.TestCase):
 
     def test_a_page_is_read_as_a_browser_reads_it(self) -> None:
         """Otherwise a tag may be one that only the browser sees."""
-        for content, charset, wanted in (
-            ("<p>é".encode(), None, "<p>é"),
-            ("<p>é".encode()[:-1], None, "<p>Ã"),
-            ("<p>é€".encode("windows-1252"), None, "<p>é€"),
-            ("<p>€".encode("windows-1252"), "iso-8859-1", "<p>€"),
-            ("<p>я".encode("koi8-r"), "koi8-r", "<p>я"),
-            ("<meta charset=koi8-r><p>я".encode("koi8-r"), None, "<meta charset=koi8-r><p>я"),
-            ("<link>".encode("utf-16"), None, "<link>"),
-            ("<link>".encode("utf-16"), "koi8-r", "<link>"),
-            ("<link>".encode("utf-16-be"), "utf-16be", "<link>"),
-            (b"<li\x1b(Bnk>", "iso-2022-jp", "<link>"),
-            (b"<meta charset=punycode><p>", None, "<meta charset=punycode><p>"),
-            (b"<meta charset=utf-16><p>", None, "<meta charset=utf-16><p>"),
-            (b"\xef\xbb\xbf<p>", "koi8-r", "<p>"),
-        ):
-            self.assertEqual(wanted, page_text(content, charset), content)
+        for content, kind, wanted in (
+            ("<p>é".encode(), "", "<p>é"), ("<p>é".encode()[:-1], "", "<p>Ã"), ("<p>é€".encode("windows-1252"), "", "<p>é€"),
+            ("<p>€".encode("windows-1252"), "iso-8859-1", "<p>€"), ("<p>€".encode("windows-1252"), "x-user-defined", "<p>€"),
+            ("<p>é".encode(), "UTF8", "<p>é"), ("<p>é".encode(), "nosuch", "<p>é"), ("<p>я".encode("koi8-r"), "koi8-r", "<p>я"),
+            ("<meta charset=koi8-r><p>я".encode("koi8-r"), "", "<meta charset=koi8-r><p>я"), ("<p>ก".encode("cp874"), "windows-874", "<p>ก"),
+            ("<meta charset=utf-8><p>я".encode("cp1251"), "cp1251", "<meta charset=utf-8><p>я"), ("<p>①".encode("cp932"), "Shift_JIS", "<p>①"),
+            ("<p>镕".encode("gbk"), "gb2312", "<p>镕"), ("<p>똠".encode("cp949"), "euc-kr", "<p>똠"), ("<p>ğ".encode("cp1254"), "iso-8859-9", "<p>ğ"),
+            ("<link>".encode("utf-16"), "", "<link>"), ("<link>".encode("utf-16"), "koi8-r", "<link>"), ("<link>".encode("utf-16-le"), "utf-16", "<link>"),
+            ("<link>".encode("utf-16-be"), "utf-16be", "<link>"), ("<link>".encode("utf-16-be"), "", "\0<\0l\0i\0n\0k\0>"),
+            ("\ufeff<link>".encode("utf-16-be"), "utf-16le", "<link>"), (b"<li\x1b(Bnk>", "iso-2022-jp", "<link>"),
+            (b"<meta charset=punycode><p>\xff", "", "<meta charset=punycode><p>ÿ"), (b"<meta charset=hex>61", "rot13", "<meta charset=hex>61"),
+            (b"<meta charset=utf-16><p>", "", "<meta charset=utf-16><p>"), (b"<meta charset=x-user-defined>\x80", "", "<meta charset=x-user-defined>€"),
+            (b"\xef\xbb\xbf<p>", "koi8-r", "<p>"), (b"<link>\0", "utf-16", "\u6c3c\u6e69\u3e6b\ufffd"),
+        ):  # fmt: skip
+            self.assertEqual(wanted, text_of(content, charset_of(f"text/html; Charset='{kind}'"), True), content)
+        for is_whole, wanted in ((True, "Ã"), (False, "\ufffd")):
+            self.assertEqual(wanted, text_of("é".encode()[:-1], None, True, is_whole))
+        self.assertEqual("<meta charset=koi8-r>Á", text_of(b"<meta charset=koi8-r>\xc1", None, False))
 
     def test_a_style_sheet_has_its_imports(self) -> None:
         for given, wanted in (

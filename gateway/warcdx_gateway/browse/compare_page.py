@@ -74,12 +74,9 @@ def side_of(collection: Collection, capture: Capture) -> Side:
 
 def run(pages: list[Read]) -> dict[str, Any]:
     """Compares two pages by a process of its own. Raises NotShown if it needs too much."""
-    head = {
-        "sizes": [len(page.payload.content) for page in pages],
-        "charsets": [page.charset for page in pages],
-        "html": [page.is_html for page in pages],
-    }
-    text = json.dumps(head).encode() + b"\n" + b"".join(page.payload.content for page in pages)
+    texts = [page.text.encode() for page in pages]
+    head = {"sizes": list(map(len, texts)), "html": [page.is_html for page in pages]}
+    text = b"\n".join((json.dumps(head).encode(), b"".join(texts)))
     command = (sys.executable, "-I", str(_PROGRAM))
     try:
         done = subprocess.run(command, input=text, stdout=subprocess.PIPE, stderr=subprocess.DEVNULL, timeout=SECONDS)

@@ -2,9 +2,9 @@
 
 usage: comparing.py < INPUT > OUTPUT
 
-INPUT is a line of JSON, an object with the lists `sizes` (bytes), `charsets` and `html` (whether it
-is HTML) for the two pages, and then the bytes of both. OUTPUT is JSON: `rows`, and `cut`, whether
-each text has more than is compared.
+INPUT is a line of JSON, an object with the lists `sizes` (bytes) and `html` (whether it is HTML) for
+the two pages, and then both in UTF-8. OUTPUT is JSON: `rows`, and `cut`, whether each text has more
+than is compared.
 
 A page of an archive may be made to take a parser or a comparison very long.
 """
@@ -32,8 +32,6 @@ _BLOCKS = frozenset(
     "figure footer form h1 h2 h3 h4 h5 h6 header hgroup hr legend li main menu nav ol option p pre "
     "section summary table td th title tr ul".split()
 )
-META_CHARSET = re.compile(rb"""<meta[^>]{0,200}?charset\s*=\s*["']?([A-Za-z0-9._:-]{1,40})""", re.IGNORECASE)
-META_SEARCHED = 4096  # bytes in which a page may name its character set
 _WORDS = re.compile(r"\w+|\s+|[^\w\s]")
 
 Part = tuple[bool, str]  # whether it differs, and a piece of a line
@@ -77,16 +75,6 @@ class _Text(HTMLParser):
         self._line = []
         if line:
             self.lines.append(line)
-
-
-def text_of(content: bytes, charset: Optional[str], is_html: bool) -> str:
-    """Returns the characters of a page. A byte that can't be decoded becomes U+FFFD."""
-    if charset is None and is_html and (found := META_CHARSET.search(content[:META_SEARCHED])):
-        charset = found[1].decode("ascii")
-    try:
-        return content.decode(charset or "utf-8", errors="replace")
-    except (LookupError, ValueError):
-        return content.decode("utf-8", errors="replace")
 
 
 def lines_of(text: str, is_html: bool) -> tuple[list[str], bool]:
@@ -166,8 +154,8 @@ def main() -> None:
     resource.setrlimit(resource.RLIMIT_AS, (memory, memory))
     pages = json.loads(sys.stdin.buffer.readline())
     texts = []
-    for size, charset, is_html in zip(pages["sizes"], pages["charsets"], pages["html"]):
-        texts.append(lines_of(text_of(sys.stdin.buffer.read(size), charset, is_html), is_html))
+    for size, is_html in zip(pages["sizes"], pages["html"]):
+        texts.append(lines_of(sys.stdin.buffer.read(size).decode(), is_html))
     (first, first_cut), (second, second_cut) = texts
     json.dump({"rows": list(compare(first, second)), "cut": [first_cut, second_cut]}, sys.stdout)
 

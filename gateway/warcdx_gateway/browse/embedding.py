@@ -20,7 +20,6 @@ from ..collection import Collection
 from ..history import History
 from ..refusal import Refusal
 from . import reading
-from .comparing import META_CHARSET, META_SEARCHED
 from .places import original_of
 from .record_page import target_of
 from .searching import NotShown
@@ -45,9 +44,6 @@ _PAGES = ("http://", "https://", "ftp://")
 _CONNECTING = re.compile(rb"<(link|iframe|frame)(?=[\s/>])", re.IGNORECASE)
 _REPLACED = {b"link": b"<meta>", b"iframe": b"<iframe hidden>", b"frame": b"<frame>"}
 _KEPT = ("rel", "href", "media", "title", "type")  # attributes of a style sheet
-_MARKS = ((b"\xef\xbb\xbf", "utf-8-sig"), (b"\xff\xfe", "utf-16"), (b"\xfe\xff", "utf-16"))
-_LATIN = "windows-1252"  # which browsers take for these names, and for none
-_LATIN_NAMES = ("iso-8859-1", "us-ascii")
 _IMPORT = re.compile(rb"""@import\s+("[^"\n]*"|'[^'\n]*')""", re.IGNORECASE)
 
 Url = Callable[[str, str], Optional[str]]
@@ -111,33 +107,8 @@ def embedded(
     `linked` returns the URL to which a link leads. Without it links stay as they are.
     """
     parts = Parts(collection, capture.timestamp)
-    page = page_text(record.payload.content, record.charset).encode()
     base = target_of(record.head) or capture.original
-    yield from filled(page, base, parts.url, linked, collection.work.go_on)
-
-
-def page_text(content: bytes, charset: Optional[str]) -> str:
-    """Returns the text of a page as a browser reads it, whose HTTP header may name a character set.
-
-    So tags are found that another character set would hide.
-    """
-    for mark, name in _MARKS:
-        if content.startswith(mark):
-            return content.decode(name, errors="replace")
-    if charset is None and (found := META_CHARSET.search(content[:META_SEARCHED])):
-        named = found[1].decode("ascii").lower()
-        charset = named if named in reading.CHARSETS and not named.startswith("utf-16") else None
-    if charset is None:
-        try:
-            return content.decode()
-        except UnicodeDecodeError as error:
-            is_cut = len(content) == reading.MOST_SHOWN and error.start >= len(content) - 3
-            charset = "utf-8" if is_cut else _LATIN
-    charset = _LATIN if charset in _LATIN_NAMES else charset
-    try:
-        return content.decode(charset, errors="replace")
-    except LookupError:
-        return content.decode(_LATIN, errors="replace")
+    yield from filled(record.text.encode(), base, parts.url, linked, collection.work.go_on)
 
 
 def filled(

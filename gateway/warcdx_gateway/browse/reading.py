@@ -1,7 +1,6 @@
 """Reads records for these pages, with bounds on what is read, unpacked and held."""
 import contextlib
 import os
-import re
 from collections.abc import Iterator
 from dataclasses import dataclass, replace
 from typing import Optional
@@ -18,6 +17,7 @@ from ..collection import Collection
 from ..generation import Identity
 from ..rules import Action
 from ..work import Work
+from .charsets import charset_of, text_of
 from .searching import NotShown
 
 MOST_SHOWN = 4 << 20  # bytes of a payload that are shown
@@ -26,18 +26,10 @@ SILENCE = 10  # seconds for the program to find a record, and to unpack what fol
 # What unpacking a payload may take, for a page and for a download.
 SHOWN = Limits(size=64 << 20, seconds=5)
 DOWNLOADED = Limits(size=16 << 30, seconds=3600)
-_CHARSET = re.compile(r"""charset\s*=\s*["']?([A-Za-z0-9._:-]{1,40})""", re.IGNORECASE)
 HTML = ("text/html", "application/xhtml+xml")
 HTML_SHOWN = "text/html; charset=utf-8"  # as `embedding` gives it
 _IMAGES = ("image/png", "image/jpeg", "image/gif", "image/webp")
 _TEXTS = ("application/json", "application/javascript", "application/x-javascript", "application/xml", "application/warc-fields")
-CHARSETS = frozenset(
-    "utf-8 us-ascii iso-8859-1 iso-8859-2 iso-8859-3 iso-8859-4 iso-8859-5 iso-8859-6 iso-8859-7 "
-    "iso-8859-8 iso-8859-9 iso-8859-10 iso-8859-13 iso-8859-14 iso-8859-15 iso-8859-16 "
-    "windows-1250 windows-1251 windows-1252 windows-1253 windows-1254 windows-1255 windows-1256 "
-    "windows-1257 windows-1258 windows-874 koi8-r koi8-u "
-    "shift_jis euc-jp iso-2022-jp euc-kr gb2312 gbk gb18030 big5 utf-16 utf-16le utf-16be".split()
-)
 
 
 @dataclass(frozen=True)
@@ -77,10 +69,13 @@ class Read:
 
     @property
     def charset(self) -> Optional[str]:
-        """The character set that the type names, if it is a usual one, in lower case."""
-        found = _CHARSET.search(self.content_type)
-        name = found[1].lower() if found else ""
-        return name if name in CHARSETS else None
+        """The character set that the type names, if browsers know it, in lower case."""
+        return charset_of(self.content_type)
+
+    @property
+    def text(self) -> str:
+        """The payload as a text."""
+        return text_of(self.payload.content, self.charset, self.is_html, self.payload.is_whole)
 
     @property
     def shown_type(self) -> Optional[str]:
