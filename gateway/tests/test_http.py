@@ -15,7 +15,7 @@ from .support import COMMAND, PROGRAM, ROOT, SAMPLE, WAIT, Case, Shared, connect
 
 from warcdx_gateway.application import FORM
 from warcdx_gateway.settings import CollectionSettings, Settings, checked
-from warcdx_gateway.shared import Metrics
+from warcdx_gateway.shared import CountsFile, Metrics
 
 
 class Http(Shared):
@@ -272,6 +272,27 @@ class Counts(unittest.TestCase):
                     os._exit(0)
                 os._exit(1)
             self.assertEqual(0, os.waitpid(process, 0)[1])
+
+    def test_a_worker_whose_counts_have_no_room_goes_on(self) -> None:
+        """The disk is full when it starts, or when a file has to grow. It says so once."""
+        self.enterContext(mock.patch.dict(os.environ))
+        self.enterContext(mock.patch("prometheus_client.values.ValueClass"))
+        full = mock.patch("os.posix_fallocate", side_effect=OSError(28, "No space left on device"))
+        for is_seated in (False, True):
+            folder = pathlib.Path(self.enterContext(tempfile.TemporaryDirectory()))
+            metrics = Metrics(folder)
+            for file in folder.glob("*_0.db"):
+                file.unlink()
+            if is_seated:
+                metrics.sit()
+            with full, mock.patch("warcdx_gateway.shared.say") as said, mock.patch.object(CountsFile, "is_told", False):
+                if not is_seated:
+                    metrics.sit()
+                for number in range(1000):
+                    metrics.count(f"{number:0100}", 200)
+                metrics.seconds.observe(1)
+            said.assert_called_once_with("a process has no room for its counts, which are lost: No space left on device")
+            self.assertEqual(is_seated, b"warcdx_gateway_requests_total{" in metrics.text())
 
 
 class Defaults(unittest.TestCase):

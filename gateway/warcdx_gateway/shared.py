@@ -14,9 +14,13 @@ from typing import BinaryIO, Optional
 
 from prometheus_client import CollectorRegistry, generate_latest, multiprocess, values
 from prometheus_client.metrics import Counter, Gauge, Histogram
+from prometheus_client.mmap_dict import MmapedDict
+
+from .refusal import say
 
 BEATS = 0.25  # seconds between two beats
 FILE = 1 << 16  # bytes of a file of counts, as prometheus_client makes it
+MOST_ADDED = 24  # bytes that the file has for a count beside its name
 MOST_SEATS = 4096  # workers that run at a time
 STATUSES = frozenset(http.HTTPStatus)  # that are counted by themselves, as an archive may have any other
 BOUNDS = (0.005, 0.01, 0.025, 0.05, 0.1, 0.25, 0.5, 1.0, 2.5, 5.0, 10.0, 30.0)  # seconds
@@ -98,11 +102,54 @@ class Board:
         return self._text
 
 
+class CountsFile(MmapedDict):  # type: ignore[misc]
+    """A file of counts that has room for them: a process ends that writes to a page of a file for which the disk has none.
+
+    Without room the counts go on in memory, where nobody reads them. The process says so once.
+    """
+
+    is_told = False
+
+    def __init__(self, filename: str) -> None:
+        try:
+            allocate(filename, FILE)
+            super().__init__(filename)
+        except OSError as error:
+            self._go_on_in_memory(error)
+
+    def _init_value(self, key: str) -> None:
+        if self._used + len(key.encode()) + MOST_ADDED > self._capacity:
+            try:
+                allocate(self._fname, 2 * self._capacity)
+            except OSError as error:
+                self._go_on_in_memory(error, self._m[:])
+        super()._init_value(key)
+
+    def _go_on_in_memory(self, error: OSError, counted: bytes = b"") -> None:
+        with open(os.memfd_create("counts"), "wb") as file:
+            file.write(counted)
+            file.flush()
+            super().__init__(f"/proc/self/fd/{file.fileno()}")
+        if not CountsFile.is_told:
+            CountsFile.is_told = True
+            say(f"a process has no room for its counts, which are lost: {error.strerror}")
+
+
+def allocate(name: "str | os.PathLike[str]", size: int) -> None:
+    """Makes a file of some bytes, for which the disk has room. Raises OSError, and then leaves no empty file."""
+    with open(name, "ab") as file:  # of which another process may have a part already
+        try:
+            os.posix_fallocate(file.fileno(), 0, size)
+        except OSError:
+            if not os.fstat(file.fileno()).st_size:
+                os.unlink(name)
+            raise
+
+
 class Metrics:
     """Counts of all workers since the start, in files of a folder.
 
-    A worker has the files of a seat. Its successor goes on with them. They are filled at the
-    start, since a process ends that writes to a page of a file for which the disk has no room.
+    A worker has the files of a seat. Its successor goes on with them. They are filled at the start.
     """
 
     def __init__(self, folder: pathlib.Path, workers: int = 1) -> None:
@@ -113,6 +160,7 @@ class Metrics:
         self._files = [folder / f"{kind}_{seat}.db" for seat in seats for kind in ("counter", "gauge_max", "histogram")]
         self._fill()
         os.environ["PROMETHEUS_MULTIPROC_DIR"] = str(folder)
+        values.MmapedDict = CountsFile
         values.ValueClass = values.MultiProcessValue(lambda: self._seat)
         # The registry is of this object, as a master that reads its settings again has another one.
         registry = CollectorRegistry()
@@ -159,8 +207,7 @@ class Metrics:
 
     def _fill(self) -> None:
         for name in self._files:
-            with open(name, "ab") as file:  # of which another process may have a part already
-                os.posix_fallocate(file.fileno(), 0, FILE)
+            allocate(name, FILE)
 
     def text(self) -> bytes:
         """Returns all counts in the text format of Prometheus."""
