@@ -11,6 +11,7 @@ import tempfile
 import threading
 import time
 import unittest
+import zlib
 from collections import Counter
 from collections.abc import Iterator
 from typing import IO, Any, NoReturn
@@ -128,7 +129,7 @@ class TaskTest(unittest.TestCase):
             (PROGRAM, "index", *(SAMPLES / name for name in names)), stdout=subprocess.PIPE, stderr=subprocess.DEVNULL
         ).stdout
         self.assertEqual([path.read_bytes() for path in folder.iterdir()], [wanted])
-        self.assertEqual(written[:3], (str(*folder.iterdir()), len(wanted), 36))
+        self.assertEqual(written[:4], (str(*folder.iterdir()), len(wanted), zlib.crc32(wanted), 36))
         self.assertEqual(
             [(name, cause, captures) for name, _, cause, captures in indexed],
             [("damaged.warc", "fault 448 ShortBlock", 2), ("response.warc", "", 1), ("wget.warc", "", 33)],
@@ -185,8 +186,8 @@ class TaskTest(unittest.TestCase):
                 archive.write(f"WARC/1.0\r\n{fields}\r\nContent-Length: {len(block)}\r\n\r\n{block}\r\n\r\n".encode())
         written, indexed = index_archives(PROGRAM, str(folder), ["a.warc"], str(folder / "new"))
         self.assertEqual([each[2:] for each in indexed], [("", len(types))])
-        self.assertEqual(written[3]["types"], dict.fromkeys(types, 1))
-        self.assertEqual(written[3]["statuses"], {"200": len(types)})
+        self.assertEqual(written[4]["types"], dict.fromkeys(types, 1))
+        self.assertEqual(written[4]["statuses"], {"200": len(types)})
 
     def test_lines_have_the_path_of_their_archive(self) -> None:
         file = open(in_folder(self) / "lines", "w+b")
@@ -213,15 +214,17 @@ class TaskTest(unittest.TestCase):
                 (folder / str(number)).write_bytes(lines_of(range(number, number + 2), f"{number}.warc"))
             (folder / "mixed").write_bytes(lines_of(range(3), "a.warc") + lines_of(range(5, 7), "b.warc"))
             runs: list[Any] = [*((str(number), None) for number in range(10)), ("mixed", ["b.warc"])]
-            path, size, filtered = merge_runs(PROGRAM, str(folder), runs, str(folder / "new"))
+            path, size, crc_32, filtered = merge_runs(PROGRAM, str(folder), runs, str(folder / "new"))
         found = pathlib.Path(path).read_bytes()
         names = [json.loads(line.split(b" ", 2)[2])["filename"] for line in found.splitlines()]
         self.assertEqual(Counter(names), {**{f"{number}.warc": 2 for number in range(10)}, "b.warc": 2})
-        self.assertEqual((size, [each[1:3] for each in filtered]), (len(found), [(len(lines_of(range(5, 7), "b.warc")), 2)]))
+        self.assertEqual((size, crc_32), (len(found), zlib.crc32(found)))
+        left = lines_of(range(5, 7), "b.warc")
+        self.assertEqual([each[1:4] for each in filtered], [(len(left), zlib.crc32(left), 2)])
         self.assertEqual({path.name for path in folder.iterdir()}, {*map(str, range(10)), "mixed", os.path.basename(path)})
-        path, size, filtered = merge_runs(PROGRAM, str(folder), [("mixed", ["a.warc"])], str(folder / "only"))
+        path, size, crc_32, filtered = merge_runs(PROGRAM, str(folder), [("mixed", ["a.warc"])], str(folder / "only"))
         self.assertEqual(pathlib.Path(path).read_bytes(), lines_of(range(3), "a.warc"))
-        self.assertEqual(filtered[0][3]["hosts"], {"h000.com": 1, "h001.com": 1, "h002.com": 1})
+        self.assertEqual(filtered[0][4]["hosts"], {"h000.com": 1, "h001.com": 1, "h002.com": 1})
 
     def test_values_are_bounded(self) -> None:
         with mock.patch.object(update_tasks, "MOST_VALUES", 100):
@@ -229,7 +232,7 @@ class TaskTest(unittest.TestCase):
             self.addCleanup(lines._file.close)
             for number in range(1000):
                 lines.write(lines_of(range(number, number + 1), kind="x" * 300 if number % 2 else str(number)))
-            _, _, captures, counts = lines.end()
+            *_, captures, counts = lines.end()
         self.assertEqual(captures, 1000)
         self.assertLessEqual(len(counts["hosts"]), 100)
         self.assertEqual(counts["types"]["x" * 256], 500)

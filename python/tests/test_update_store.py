@@ -10,6 +10,7 @@ import sqlite3
 import stat
 import tempfile
 import unittest
+import zlib
 from collections import Counter
 from typing import Any
 
@@ -50,7 +51,7 @@ class StoreTest(unittest.TestCase):
         path = f"{self.store.new(number)}-0"
         pathlib.Path(path).write_bytes(text)
         counts = {"hosts": Counter({f"h{each}.com": 1 for each in numbers}), "years": Counter({"2016": len(numbers)})}
-        self.store.add(number, (path, len(text), len(numbers), counts), [(name, (1, 2, 3, 4), "", len(numbers))])
+        self.store.add(number, (path, len(text), zlib.crc32(text), len(numbers), counts), [(name, (1, 2, 3, 4), "", len(numbers))])
         return number
 
     def texts(self) -> list[bytes]:
@@ -127,7 +128,7 @@ class StoreTest(unittest.TestCase):
         text = b"".join((self.folder / "runs" / run.file).read_bytes() for run in runs)
         path = f"{self.store.new(number)}-0"
         pathlib.Path(path).write_bytes(text)
-        self.store.publish([Merged(number, path, size or len(text), runs, filtered or {})], [], {})
+        self.store.publish([Merged(number, path, size or len(text), zlib.crc32(text), runs, filtered or {})], [], {})
 
     def test_a_run_that_has_not_all_captures_of_others_is_refused(self) -> None:
         with self.store.locked(self.settings):

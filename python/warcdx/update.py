@@ -230,7 +230,7 @@ class Update:
             merged = [self._merge(workers, group) for group in groups]
             self._store.publish(merged, unused, {"made": now, **members})
         if self._single is not None and not self._single.is_current:
-            self._single.take(self._merge(workers, self._store.runs()).path)
+            self._single.take(self._merge(workers, self._store.runs()))
 
     def _groups(self, runs: Sequence[Run]) -> list[Sequence[Run]]:
         """Returns the runs that become one, and by itself each further one that has to be written anew."""
@@ -245,8 +245,8 @@ class Update:
             (number,) = self._store.reserve(1)
             ((_, outcome),) = workers.run(merge_runs, [(self._program, self._store.runs_folder, sources, self._store.new(number))])
             if not isinstance(outcome, Exception):
-                path, size, filtered = outcome
-                return Merged(number, path, size, runs, dict(zip((run.number for run in runs if run.is_stale), filtered)))
+                path, size, crc_32, filtered = outcome
+                return Merged(number, path, size, crc_32, runs, dict(zip((run.number for run in runs if run.is_stale), filtered)))
         raise outcome if isinstance(outcome, (Failed, OSError)) else CannotUpdate(reason_of(outcome))
 
 

@@ -7,14 +7,14 @@ from typing import Optional
 
 from .files import move, remove, write_to_disk
 from .update_store import Store
-from .update_tables import CannotUpdate, Known
+from .update_tables import CannotUpdate, Known, Merged
 from .update_tasks import state_of
 
 
 class Single:
     """The one file of the index in a store. Its path may be a link.
 
-    It is known by its size, time and inode, which are on the disk before it has its name.
+    It is known by its size, time and inode, which are on the disk before it has its name, and a copy of it by its size and CRC-32.
     """
 
     def __init__(self, store: Store, path: str) -> None:
@@ -22,15 +22,23 @@ class Single:
         self._store = store
 
     def begin(self) -> None:
-        """Removes what an ended run of the command has left. Raises as `expect` does."""
-        self.expect()
+        """Notes by what a copy is known, and removes what an ended run of the command has left. Raises as `expect` does."""
+        if (copy := self.expect()) is not None:
+            self._store.know(*copy)
         remove(self._new)
 
-    def expect(self) -> None:
-        """Raises OSError, or CannotUpdate if there is a file that no run of the command has made as it is."""
+    def expect(self) -> "Optional[tuple[Known, int, int]]":
+        """Returns by what a copy is to be known, if the file is one, its CRC-32 and its state.
+
+        Raises OSError, or CannotUpdate if there is a file that no run of the command has made as it is.
+        """
         found = _known_by(self.path)
-        if found is not None and self._store.known(found) is None:
+        if found is None or self._store.known(found) is not None:
+            return None
+        copy = self._store.known_copy(self.path, found[0])
+        if copy is None:
             raise CannotUpdate(f"no earlier update has made {self.path} as it is, and it isn't replaced: give another INDEX")
+        return found, *copy
 
     @property
     def is_current(self) -> bool:
@@ -38,15 +46,15 @@ class Single:
         found = _known_by(self.path)
         return found is not None and self._store.known(found) == self._store.noted.changed
 
-    def take(self, path: str) -> None:
+    def take(self, merged: Merged) -> None:
         """Replaces the file by one of the last state, which may be on another disk."""
-        move(path, self._new)
+        move(merged.path, self._new)
         with contextlib.suppress(FileNotFoundError):
             os.chmod(self._new, os.stat(self.path).st_mode & 0o7777)
         found = _known_by(self._new)
         if found is None:
             raise CannotUpdate(f"something else has removed {self._new}")
-        self._store.know(found)
+        self._store.know(found, merged.crc_32, self._store.noted.changed)
         self.expect()
         os.replace(self._new, self.path)
         write_to_disk(os.path.dirname(self.path))

@@ -16,10 +16,10 @@ from . import states, update_tables
 from .ending import blocked
 from .files import is_regular, remove, write_to_disk
 from .update_tables import Archive, CannotUpdate, Known, Merged, Noted, Run, Settings, text_of
-from .update_tasks import FIELDS, MOST_VALUES, Indexed, Written, state_of
+from .update_tasks import FIELDS, MOST_VALUES, Indexed, Written, crc_32_of, state_of
 
 DATABASE = "state.db"
-FORM = 1  # of the database
+FORM = 2  # of the database
 MOST_SHOWN = 100  # values of a field in a summary
 _APPLICATION = 0x57434458  # marks the database as one of this command
 _BEGUN = {DATABASE, f"{DATABASE}-journal"}
@@ -124,7 +124,7 @@ class Store:
     def runs(self) -> list[Run]:
         """Returns the runs that are in the last state, or will be in the next one, the smallest first."""
         rows = self._ask(
-            "SELECT number, size, mtime, captures, since, IFNULL(kept, 0) FROM runs LEFT JOIN (SELECT run, SUM(captures) AS kept "
+            "SELECT number, size, mtime, crc_32, captures, since, IFNULL(kept, 0) FROM runs LEFT JOIN (SELECT run, SUM(captures) AS kept "
             "FROM archives GROUP BY run) ON run = number WHERE until IS NULL ORDER BY size, number"
         )
         return [Run(*row) for row in rows]
@@ -134,9 +134,9 @@ class Store:
         return [name for (name,) in self._ask("SELECT name FROM archives WHERE run = ? ORDER BY name", run.number)]
 
     def is_whole(self, run: Run) -> bool:
-        """Returns whether the file of a run is as it was written."""
+        """Returns whether the file of a run is as it was written, or a copy."""
         path = f"{self.runs_folder}/{run.file}"
-        return is_regular(path, run.size) and state_of(path)[1] == run.mtime
+        return is_regular(path, run.size) and (state_of(path)[1] == run.mtime or crc_32_of(path) == run.crc_32)
 
     def faults(self) -> dict[str, str]:
         """Returns the faults that were reported, by archives and folders."""
@@ -161,10 +161,10 @@ class Store:
 
     def add(self, number: int, written: Written, archives: Sequence[Indexed]) -> None:
         """Adds a run of archives, instead of what the database has of these."""
-        path, size, captures, counts = written
+        path, size, crc_32, captures, counts = written
         with self._transaction():
             if captures:
-                self._add_run(number, path, size, captures)
+                self._add_run(number, path, size, crc_32, captures)
                 self._add_counts(number, counts)
             else:
                 remove(path)
@@ -206,16 +206,22 @@ class Store:
                     remove(f"{self.runs_folder}/{name}")
             states.remove_before(self.folder, self.noted.state - 1)
 
-    def know(self, found: Known) -> None:
-        """Notes by what a file with the runs of the last state is known."""
+    def know(self, found: Known, crc_32: int, state: int) -> None:
+        """Notes by what a file with the runs of a state is known."""
         with self._transaction():
-            self._ask("INSERT INTO files VALUES (?, ?, ?, ?)", *found, self.noted.changed)
+            self._ask("INSERT INTO files VALUES (?, ?, ?, ?, ?)", *found, crc_32, state)
             self._ask("DELETE FROM files WHERE rowid <= last_insert_rowid() - ?", _MOST_KNOWN)
 
     def known(self, found: Known) -> Optional[int]:
         """Returns the first state with the runs of a file that is known by this, or None."""
         rows = self._ask("SELECT state FROM files WHERE size = ? AND mtime = ? AND inode = ? ORDER BY rowid DESC", *found)
         return rows[0][0] if rows else None
+
+    def known_copy(self, path: str, size: int) -> Optional[tuple[int, int]]:
+        """Returns the CRC-32 of a copy of a file that is known, and the first state with its runs, or None."""
+        rows = self._ask("SELECT crc_32, state FROM files WHERE size = ? ORDER BY rowid DESC", size)
+        found = crc_32_of(path) if rows else 0
+        return next((row for row in rows if row[0] == found), None)
 
     def _make(self, settings: Settings) -> None:
         with self._transaction():
@@ -239,7 +245,7 @@ class Store:
                     remove(f"{self.folder}/{name}")
 
     def _recover(self) -> None:
-        """Makes the last state if it isn't there, and removes what an ended run of the command has left."""
+        """Makes the last state if it isn't there, notes the times of copied runs, and removes what an ended run of the command has left."""
         shown = states.shown(self.folder)
         for link in (f"{self.folder}/{states.CURRENT}", f"{self.folder}/{states.STATES}/{states.CURRENT}"):
             if os.path.lexists(link) and not states.is_link(link):
@@ -247,6 +253,9 @@ class Store:
         self._expect_no_later_run()
         if self.noted.state and not (shown == self.noted.state and states.is_whole(self.folder, self.noted.state, self._listed())):
             self._show()
+        for run in filter(self.is_whole, self.runs()):
+            if (mtime := state_of(f"{self.runs_folder}/{run.file}")[1]) != run.mtime:
+                self._ask("UPDATE runs SET mtime = ? WHERE number = ?", mtime, run.number)
         self.clear()
 
     def _expect_no_later_run(self) -> None:
@@ -264,10 +273,10 @@ class Store:
         """Returns the runs of the last state."""
         return [states.Listed(run.file, run.size, run.captures) for run in self.runs() if run.since is not None]
 
-    def _add_run(self, number: int, path: str, size: int, captures: int) -> None:
+    def _add_run(self, number: int, path: str, size: int, crc_32: int, captures: int) -> None:
         _, mtime, _, _ = state_of(path)
         os.replace(path, f"{self.runs_folder}/{number:06}.cdxj")
-        self._ask("INSERT INTO runs VALUES (?, ?, ?, ?, NULL, NULL)", number, size, mtime, captures)
+        self._ask("INSERT INTO runs VALUES (?, ?, ?, ?, ?, NULL, NULL)", number, size, mtime, crc_32, captures)
 
     def _add_counts(self, number: int, counts: Mapping[str, Mapping[str, int]]) -> None:
         rows = ((number, field, value, count) for field, each in counts.items() for value, count in each.items())
@@ -275,16 +284,16 @@ class Store:
 
     def _add_merged(self, merged: Merged) -> None:
         """Adds a run that was made of others, with their counts. Raises CannotUpdate if it hasn't the size and captures that it has to have."""
-        number, path, size, runs, filtered = merged
-        for each, (_, _, _, counts) in filtered.items():
+        number, path, size, crc_32, runs, filtered = merged
+        for each, (*_, counts) in filtered.items():
             self._ask("DELETE FROM counts WHERE run = ?", each)
             self._add_counts(each, counts)
-        sizes, counts_of = zip(*(filtered[run.number][1:3] if run.number in filtered else (run.size, run.captures) for run in runs))
+        sizes, counts_of = zip(*(filtered[run.number][1:4:2] if run.number in filtered else (run.size, run.captures) for run in runs))
         numbers = ",".join(str(run.number) for run in runs)
         (captures,) = self._ask(f"SELECT SUM(captures) FROM archives WHERE run IN ({numbers})")[0]
         if (size, captures) != (sum(sizes), sum(counts_of)):
             raise CannotUpdate(f"the archives of runs have {captures:,} captures, and the runs {sum(counts_of):,}, or these were changed")
-        self._add_run(number, path, size, captures)
+        self._add_run(number, path, size, crc_32, captures)
         self._ask(f"UPDATE archives SET run = ? WHERE run IN ({numbers})", number)
         for field in FIELDS:
             self._ask(

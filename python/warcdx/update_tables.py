@@ -17,11 +17,11 @@ _CONDITIONS = {
 }
 _COLUMNS = {
     "settings": "folder TEXT, recursive INTEGER, types TEXT, token TEXT, last INTEGER, state INTEGER, changed INTEGER, summary TEXT",
-    "runs": "number INTEGER, size INTEGER, mtime INTEGER, captures INTEGER, since INTEGER?, until INTEGER?",
+    "runs": "number INTEGER, size INTEGER, mtime INTEGER, crc_32 INTEGER, captures INTEGER, since INTEGER?, until INTEGER?",
     "archives": "name TEXT, size INTEGER, mtime INTEGER, ctime INTEGER, inode INTEGER, cause TEXT, captures INTEGER, run INTEGER?",
     "counts": "run INTEGER, field TEXT, value TEXT, captures INTEGER",
     "faults": "archive TEXT, message TEXT",
-    "files": "size INTEGER, mtime INTEGER, inode INTEGER, state INTEGER",
+    "files": "size INTEGER, mtime INTEGER, inode INTEGER, crc_32 INTEGER, state INTEGER",
 }
 _ENDS = {
     "runs": ", PRIMARY KEY (number))",
@@ -125,7 +125,7 @@ class Archive(NamedTuple):
 
 
 class Run(NamedTuple):
-    """A run: its size in bytes, the time of its file in nanoseconds, its captures, and the first state that has it.
+    """A run: its size in bytes, the time of its file in nanoseconds, its CRC-32, its captures, and the first state that has it.
 
     `left` are the captures of archives that the index has still.
     """
@@ -133,6 +133,7 @@ class Run(NamedTuple):
     number: int
     size: int
     mtime: int
+    crc_32: int
     captures: int
     since: Optional[int]
     left: int
@@ -148,10 +149,11 @@ class Run(NamedTuple):
 
 
 class Merged(NamedTuple):
-    """A run that was made of others: the path of its file, its size, and those of them that were filtered, as they were then."""
+    """A run that was made of others: the path of its file, its size, its CRC-32, and those of them that were filtered, as they were then."""
 
     number: int
     path: str
     size: int
+    crc_32: int
     runs: Sequence[Run]
     filtered: Mapping[int, Written]

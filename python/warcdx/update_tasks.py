@@ -13,6 +13,7 @@ import re
 import select
 import stat
 import subprocess
+import zlib
 from collections import Counter
 from collections.abc import Callable, Iterator, Sequence
 from typing import IO, Optional
@@ -40,8 +41,8 @@ Start = Callable[..., "subprocess.Popen[bytes]"]
 State = tuple[int, int, int, int]
 # What became of an archive: its name, its state, what the program has reported of it or nothing, and its captures.
 Indexed = tuple[str, State, str, int]
-# A file of lines: its path, its size in bytes, its captures, and those of each value of a field.
-Written = tuple[str, int, int, dict[str, "Counter[str]"]]
+# A file of lines: its path, its size in bytes, its CRC-32, its captures, and those of each value of a field.
+Written = tuple[str, int, int, int, dict[str, "Counter[str]"]]
 
 
 class Failed(Exception):
@@ -90,15 +91,15 @@ def index_archives(
 
 def merge_runs(
     program: str, folder: str, runs: Sequence[tuple[str, Optional[list[str]]]], output: str, start: Start = subprocess.Popen
-) -> tuple[str, int, list[Written]]:
+) -> tuple[str, int, int, list[Written]]:
     """Merges runs of a folder, some of them without the lines of others than archives of these names.
 
-    Returns the path of the new file, which begins with `output`, its size, and what is left of those runs. The program reads each run
-    as a check does.
+    Returns the path of the new file, which begins with `output`, its size, its CRC-32, and what is left of those runs. The program
+    reads each run as a check does.
     """
     if len(runs) == 1 and runs[0][1] is not None:
         only = _filter(os.path.join(folder, runs[0][0]), runs[0][1], output)
-        return only[0], only[1], [only]
+        return *only[:3], [only]
     filtered, files = [], []
     with contextlib.ExitStack() as stack:
         for file, names in runs:
@@ -111,7 +112,7 @@ def merge_runs(
             stack.callback(os.remove, path)
             files[:MOST_MERGED] = [os.path.basename(path)]
         path, size = _merge((program, "merge", *files), folder, output, start)
-    return path, size, filtered
+    return path, size, crc_32_of(path), filtered
 
 
 def _filter(path: str, names: Sequence[str], output: str) -> Written:
@@ -136,13 +137,22 @@ def _merge(command: Sequence[str], folder: str, output: str, start: Start) -> tu
         return file.name, file.seek(0, os.SEEK_END)
 
 
+def crc_32_of(path: str) -> int:
+    """Returns the CRC-32 of a file."""
+    found = 0
+    with open(path, "rb", buffering=0) as file:
+        while piece := file.read(_PIECE):
+            found = zlib.crc32(piece, found)
+    return found
+
+
 class _Lines:
     """Lines of a run, which are counted as they are written, by host, year, type and status, and by archives of these names."""
 
     def __init__(self, file: IO[bytes], names: Sequence[str] = ()) -> None:
         self.captures = dict.fromkeys(names, 0)
         self._file = file
-        self._size = self._lines = 0
+        self._size = self._crc_32 = self._lines = 0
         self._tails = {name: _NAME + _json_of(name) + b"}\n" for name in names}
         self._folder = _json_of(f"{os.path.dirname(names[0])}/")[:-1] if names and "/" in names[0] else b""
         self._counts: dict[str, Counter[bytes]] = {field: Counter() for field in FIELDS}
@@ -163,6 +173,7 @@ class _Lines:
         self._count(*zip(*found))
         self._file.write(lines)
         self._size += len(lines)
+        self._crc_32 = zlib.crc32(lines, self._crc_32)
         self._lines += number
 
     def end(self) -> Written:
@@ -173,7 +184,7 @@ class _Lines:
         for field, counter in self._counts.items():
             for value, count in counter.items():
                 counts[field][_value_of(value)] += count
-        return self._file.name, self._size, self._lines, counts
+        return self._file.name, self._size, self._crc_32, self._lines, counts
 
     def _count(self, keys: Sequence[bytes], years: Sequence[bytes], types: Sequence[bytes], statuses: Sequence[bytes]) -> None:
         add_hosts(self._counts["hosts"], keys)

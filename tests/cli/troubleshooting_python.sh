@@ -127,7 +127,7 @@ database() { # FILE COMMAND
 update folder changed
 database changed.d/state.db "PRAGMA user_version = 9"
 shows "another version" "another version of warcdx-update has made" update folder changed
-database changed.d/state.db "PRAGMA user_version = 1"
+database changed.d/state.db "PRAGMA user_version = 2"
 head -c 1000 /dev/zero > changed.d/state.db
 shows "another database" "state.db: file is not a database" update folder changed
 

@@ -194,7 +194,7 @@ def other_folders_of_parts_are_refused(program: pathlib.Path, folder: pathlib.Pa
     def of_another_version(parts: pathlib.Path) -> None:
         shutil.copytree(made, parts, dirs_exist_ok=True)
         with contextlib.closing(sqlite3.connect(parts / "state.db")) as database:
-            database.execute("PRAGMA user_version = 2")
+            database.execute("PRAGMA user_version = 9")
 
     def with_another_database(parts: pathlib.Path) -> None:
         with contextlib.closing(sqlite3.connect(parts / "state.db")) as database:

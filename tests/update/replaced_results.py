@@ -24,10 +24,9 @@ def only_results_of_runs_are_replaced(program: pathlib.Path, folder: pathlib.Pat
     def appended(path: pathlib.Path) -> None:
         path.write_bytes(path.read_bytes() + b"\n")
 
-    def copied(path: pathlib.Path) -> None:
-        copy = path.with_name("copy")
-        shutil.copy2(path, copy)
-        os.replace(copy, path)
+    def changed(path: pathlib.Path) -> None:
+        text = path.read_bytes()
+        path.write_bytes(text[:-1] + bytes([text[-1] ^ 1]))
 
     def linked(path: pathlib.Path) -> None:
         target = path.with_name(f"mine-{path.name}")
@@ -43,7 +42,7 @@ def only_results_of_runs_are_replaced(program: pathlib.Path, folder: pathlib.Pat
         return make
 
     kept = folder / "kept"
-    changes = (written, appended, copied, linked, remade(os.mkfifo), remade(put_socket), remade(put_folder))
+    changes = (written, appended, changed, linked, remade(os.mkfifo), remade(put_socket), remade(put_folder))
     for path, each in ((trial.index, changes), (trial.store / "current", changes[-3:])):
         for change in each:
             os.rename(path, kept)
