@@ -288,7 +288,7 @@ class Store:
         for each, (*_, counts) in filtered.items():
             self._ask("DELETE FROM counts WHERE run = ?", each)
             self._add_counts(each, counts)
-        sizes, counts_of = zip(*(filtered[run.number][1:4:2] if run.number in filtered else (run.size, run.captures) for run in runs))
+        sizes, counts_of = zip(*(_size_and_captures(run, filtered) for run in runs))
         numbers = ",".join(str(run.number) for run in runs)
         (captures,) = self._ask(f"SELECT SUM(captures) FROM archives WHERE run IN ({numbers})")[0]
         if (size, captures) != (sum(sizes), sum(counts_of)):
@@ -357,6 +357,14 @@ class Store:
 
 class _Locked(CannotUpdate):
     """Another process has the database."""
+
+
+def _size_and_captures(run: Run, filtered: Mapping[int, Written]) -> tuple[int, int]:
+    """Returns the size in bytes of what a merge takes of a run, and its captures."""
+    if run.number not in filtered:
+        return run.size, run.captures
+    _, size, _, captures, _ = filtered[run.number]
+    return size, captures
 
 
 def _changed_by_others(path: str) -> CannotUpdate:
