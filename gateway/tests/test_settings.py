@@ -1,6 +1,7 @@
 """The file of settings: what it may have, how it is read again; collections that aren't listed, and indexes that become folders."""
 import os
 import pathlib
+import resource
 import signal
 import unittest
 
@@ -135,6 +136,16 @@ class Served(Case):
                 self.assertEqual(200, server.ask("/cdx?url=example.com").status)
         self.assertNotIn("Traceback", server.said.read_text())
         self.assertEqual(0, server.end())
+
+    @unittest.skipIf(0 <= resource.getrlimit(resource.RLIMIT_NOFILE)[1] < 1200, "the limit of open files is low (ulimit -Hn)")
+    def test_a_thousand_indexes(self) -> None:
+        """The descriptors of what is opened after them are above 1,023."""
+        names = [self.put(line, f"{number}.cdxj").name for number, line in enumerate(lines(1020).splitlines(keepends=True))]
+        server = self.start(f"[collections.main]\nindexes = {names}\n")
+        self.assertEqual(1020, server.ask("/cdx?url=example.com/*&fl=offset").text.count("\n"))
+        server.process.send_signal(signal.SIGHUP)
+        self.assertEqual(1020, server.ask("/cdx?url=example.com/*&fl=offset").text.count("\n"))
+        self.assertEqual((0, ""), (server.end(), server.said.read_text()))
 
     def show(self, count: int) -> pathlib.Path:
         """Returns a new folder that is an index of some runs, of a capture each."""

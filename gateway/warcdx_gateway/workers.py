@@ -120,6 +120,12 @@ class Master(gunicorn.arbiter.Arbiter):
         else:
             super().manage_workers()
 
+    def sleep(self) -> None:
+        """Waits for a signal, a second at most. gunicorn's own would end the gateway if it has a thousand files open."""
+        poll_of([self.PIPE[0]]).poll(1000)
+        with contextlib.suppress(BlockingIOError):
+            os.read(self.PIPE[0], 64)  # a byte for each signal
+
     def handle_hup(self) -> None:
         """Reads the settings again. They come into use when their indexes were checked."""
         self.app.read_again()
