@@ -1,5 +1,6 @@
 """The workers: limits of each, how they are replaced, and signals."""
 import contextlib
+import gc
 import os
 import pathlib
 import re
@@ -7,6 +8,7 @@ import shutil
 import signal
 import socket
 import time
+import types
 import unittest
 from unittest import mock
 
@@ -14,7 +16,7 @@ from warcdx_gateway import checking
 from warcdx_gateway.renewing import TICK, Openings
 from warcdx_gateway.settings import CollectionSettings
 from warcdx_gateway.waiting import QUEUES
-from warcdx_gateway.workers import Sign, Worker
+from warcdx_gateway.workers import Master, Sign, Worker
 
 from .support import LINE, PROGRAM, SAMPLE, WAIT, Case, connected, lines
 
@@ -118,6 +120,25 @@ class Workers(Case):
         self.assertEqual((200, b"14999\n"), server.ask("/cdx?key=a&sort=reverse&limit=1&fl=offset")[::2])
         self.assertLess(server.memory(), 3 * memory)
         self.assertNotIn("Traceback", server.said.read_text())
+
+
+class Scarce(unittest.TestCase):
+    def test_a_worker_that_can_not_be_started_is_tried_again(self) -> None:
+        """The system may have no process or no memory for it now. One line says so, and no file stays open."""
+        master = Master.__new__(Master)
+        cfg, log = types.SimpleNamespace(max_requests=0, pre_fork=lambda *arguments: None), mock.Mock()
+        master.__dict__.update(pid=os.getpid(), worker_age=0, LISTENERS=[], WORKERS={}, timeout=1, app=None, cfg=cfg, log=log)
+        before = os.listdir("/proc/self/fd")
+        with mock.patch("gunicorn.workers.base.WorkerTmp", Sign), mock.patch.object(Master, "worker_class", Worker, create=True):
+            for process, count in ((None, 1), (None, 1), (12345, 1), (None, 2)):
+                with mock.patch("os.fork", side_effect=[process or BlockingIOError(11, "Resource temporarily unavailable")]):
+                    self.assertEqual(process, master.spawn_worker())
+                self.assertEqual(count, log.error.call_count)
+                for worker in master.WORKERS.values():
+                    worker.tmp.close()
+                master.WORKERS.clear()
+        gc.collect()  # the exceptions of a mock are in circles
+        self.assertEqual(before, os.listdir("/proc/self/fd"))
 
 
 class Clocks(Case):

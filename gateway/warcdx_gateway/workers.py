@@ -40,26 +40,26 @@ class Sign:
     """
 
     def __init__(self, config: Any) -> None:
-        self._file = os.memfd_create("worker")
+        self._file = open(os.memfd_create("worker"), "wb", buffering=0)  # which is closed with this object
         self._mode = 0
         self._seen = (0.0, 0.0)  # the time of the file, and when the master has found it, by a clock that nobody sets
 
     def notify(self) -> None:
         self._mode ^= 1
-        os.fchmod(self._file, self._mode)
+        os.fchmod(self.fileno(), self._mode)
 
     def last_update(self) -> float:
         """Returns the time in seconds since 1970, as gunicorn compares it. It moves with a clock that is set."""
-        changed = os.fstat(self._file).st_ctime
+        changed = os.fstat(self.fileno()).st_ctime
         if changed != self._seen[0]:
             self._seen = changed, time.monotonic()
         return time.time() - (time.monotonic() - self._seen[1])
 
     def fileno(self) -> int:
-        return self._file
+        return self._file.fileno()
 
     def close(self) -> None:
-        os.close(self._file)
+        self._file.close()
 
 
 class Log(gunicorn.glogging.Logger):
@@ -94,6 +94,8 @@ class Log(gunicorn.glogging.Logger):
 
 class Master(gunicorn.arbiter.Arbiter):
     """The process that keeps the workers."""
+
+    is_told = False  # that no worker can be started
 
     def reap_workers(self) -> None:
         """Takes the statuses of workers, and leaves those of the programs that the master has started."""
@@ -134,10 +136,16 @@ class Master(gunicorn.arbiter.Arbiter):
         """Does nothing: the address has one master."""
 
     def spawn_worker(self) -> Any:
-        """Starts a worker, which gets a signal that comes meanwhile when it can handle it."""
+        """Starts a worker, which gets a signal that comes meanwhile when it can handle it. If it can't be started, it is tried again."""
         signal.pthread_sigmask(signal.SIG_BLOCK, HANDLED)
         try:
-            return super().spawn_worker()
+            found = super().spawn_worker()
+            self.is_told = False
+            return found
+        except OSError as error:
+            if not self.is_told:
+                self.is_told = True
+                self.log.error("a worker can't be started: %s", error.strerror)
         finally:
             if os.getpid() == self.pid:
                 signal.pthread_sigmask(signal.SIG_UNBLOCK, HANDLED)
