@@ -382,8 +382,8 @@ class Requests(Case):
             with connected(self.server) as client:
                 client.send(f"GET /cdx?url=a HTTP/1.1\r\nHost: {host}\r\n\r\n".encode())
                 self.assertEqual(status, client.response().status, host)
-        server = self.start(head='hosts = ["cdx.example.org"]\nworkers = 2\n')
-        for host, status in (("cdx.example.org", 200), ("cdx.example.org:443", 200), ("a.cdx.example.org", 421)):
+        server = self.start(head='hosts = ["CDX.example.org", "[2001:DB8::1]"]\nworkers = 2\n')
+        for host, status in (("cdx.example.org", 200), ("CDX.Example.org:443", 200), ("[2001:db8::1]:80", 200), ("a.cdx.example.org", 421)):
             with connected(server) as client:
                 client.send(f"GET /cdx?url=a HTTP/1.1\r\nHost: {host}\r\n\r\n".encode())
                 self.assertEqual(status, client.response().status, host)

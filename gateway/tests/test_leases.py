@@ -157,6 +157,11 @@ class Waits(unittest.TestCase):
         self.assertEqual(b"third", self.taken())
         self.assertIsNone(self.taken())
 
+    def test_one_for_which_there_is_no_file_is_answered_at_once(self) -> None:
+        with mock.patch("os.memfd_create", side_effect=OSError(24, "Too many open files")):
+            self.assertFalse(self.put(0))
+        self.assertIsNone(self.taken())
+
     def test_an_address_leaves_a_slot_to_others(self) -> None:
         for _ in range(4):
             self.put(7, b"greedy")

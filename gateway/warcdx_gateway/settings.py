@@ -199,7 +199,8 @@ def checked(settings: Settings) -> Settings:
     most = max(min(room // max(settings.memory, 1), MOST_WORKERS), 2)
     workers = settings.workers or min(2 * processors, most)
     wide = settings.wide or max(min(workers // 2, processors - 1), 1)
-    settings = dataclasses.replace(settings, workers=workers, wide=wide)
+    hosts = tuple(host.lower().strip("[]") for host in settings.hosts)  # as those of requests are compared
+    settings = dataclasses.replace(settings, workers=workers, wide=wide, hosts=hosts)
     require(0 <= settings.port <= 65_535, "port", "has to be from 0 to 65535")
     is_port = all(port <= 65_535 for _, port in settings.metrics_address)
     require(is_port, "metrics", "has a port that has to be from 0 to 65535")

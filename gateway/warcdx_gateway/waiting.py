@@ -65,13 +65,14 @@ class Waiting:
 
     def put(self, queue: int, client: Connection) -> bool:
         """Lets a connection wait. Returns False if the queue is full."""
-        with open(os.memfd_create("request"), "wb", buffering=0) as file:
-            file.write(client.heard)
-            try:
+        try:
+            with open(os.memfd_create("request"), "wb") as file:
+                file.write(client.heard)
+                file.flush()
                 sent = [_ARRIVED.pack(client.arrived)]
                 socket.send_fds(self._ends[queue][0], sent, [client.fileno(), file.fileno()])
-            except OSError:  # such as too many descriptors that wait
-                return False
+        except OSError:  # such as too many descriptors that wait
+            return False
         return True
 
     def arrived(self, queue: int) -> Optional[float]:
