@@ -4,6 +4,7 @@ import pathlib
 import resource
 import signal
 import unittest
+from unittest import mock
 
 from werkzeug.test import Client
 
@@ -101,6 +102,13 @@ class Served(Case):
             self.addCleanup(server.end)
             self.assertEqual(200, server.ask("/cdx?url=example.com").status)
             self.assertEqual((0, ""), (server.end(), server.said.read_text()))
+
+    def test_variables_of_another_gunicorn_are_not_its_own(self) -> None:
+        self.put(SAMPLE)
+        with mock.patch.dict(os.environ, dict.fromkeys(("GUNICORN_PID", "GUNICORN_FD", "LISTEN_FDS", "LISTEN_PID"), "x")):
+            server = self.start()
+        self.assertEqual(200, server.ask("/cdx?url=example.com").status)
+        self.assertEqual((0, ""), (server.end(), server.said.read_text()))
 
     def test_signals_of_the_master_that_all_processes_get_end_no_worker(self) -> None:
         self.put(SAMPLE)

@@ -34,6 +34,7 @@ from .waiting import Costs, Shares, Waiting
 from .workers import LATER, Log, Master, Sign, Worker
 
 BACKLOG = 1024  # connections that wait for a worker
+OTHERS = ("GUNICORN_PID", "GUNICORN_FD", "LISTEN_FDS", "LISTEN_PID")  # variables by which gunicorn takes sockets of others
 MOST_LINE = 70_000  # bytes of the line of a request: a query has at most 65,536
 
 
@@ -216,6 +217,8 @@ def rules_file(settings: Settings, before: Optional[RulesFile] = None) -> RulesF
 def run(settings: Settings, read: Callable[[], Settings]) -> None:
     """Answers requests until a signal. Raises Error or OSError if it can't start."""
     signal.pthread_sigmask(signal.SIG_BLOCK, LATER)
+    for name in OTHERS:
+        os.environ.pop(name, None)
     allow_files(sum(each.most_files for each in settings.collections))
     if settings.access_log not in ("", "-"):
         open(settings.access_log, "ab").close()
