@@ -431,6 +431,7 @@ class Starts(Case):
             (("--port", "65536"), "--port: a number from 0 to 65535"),
             (("--workers", "1"), "--workers: a number from 2 to 256"),
             (("--address", "127.0.0.1:80"), "an address without a port: write --address 127.0.0.1 --port 80"),
+            (("--archives", "", "--port", "1"), "--archives: the name is empty"),
             ((), "give either SETTINGS or --indexes INDEX..: gateway.toml is SETTINGS"),
         ):
             self.assertIn(wanted, self.fails(*words, "--indexes", "index", "gateway.toml", status=2))

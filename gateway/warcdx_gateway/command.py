@@ -40,9 +40,10 @@ INSTEAD = {"-c --config --settings": "write SETTINGS alone"}
 def read_arguments(arguments: Optional[Sequence[str]]) -> Settings:
     """Returns the settings of the command line. Raises BadSettings."""
     parser = command.Parser(NAME, __doc__, INSTEAD)
-    parser.add_argument("settings", metavar="SETTINGS", nargs="?", help="a file in TOML")
-    parser.add_argument("--indexes", metavar="INDEX", nargs="+", help="the indexes of one collection")
-    parser.add_argument("--archives", metavar="FOLDER", nargs="+", default=[], help="the folders of its archives")
+    name = command.name_of_file
+    parser.add_argument("settings", type=name, metavar="SETTINGS", nargs="?", help="a file in TOML")
+    parser.add_argument("--indexes", type=name, metavar="INDEX", nargs="+", help="the indexes of one collection")
+    parser.add_argument("--archives", type=name, metavar="FOLDER", nargs="+", default=[], help="the folders of its archives")
     parser.add_argument("--address", type=address_of, help="the address to listen at, instead of that of the settings")
     parser.add_argument("--port", type=command.number_from(0, 65_535), help="the port, 0 for any that is free")
     parser.add_argument("--host", help="a name that requests may have in their field Host")
@@ -86,7 +87,7 @@ def work(arguments: Optional[Sequence[str]]) -> int:
     except OutputError:
         raise
     except (BadSettings, Error, OSError, OverflowError) as error:
-        command.report(NAME, command.printable(command.reason_of(error)))
+        command.report(NAME, command.printable(command.reason_of(error)) + command.way_of(error))
         return status_of(error)
     return 0
 

@@ -228,7 +228,7 @@ class From(Cdx):
     def test_files_that_can_not_be_read(self) -> None:
         found, said, status = self.run_command("from", "nosuch", ".", self.put_bytes(ROW, "good"))
         wanted = ["warcdx-cdx: nosuch: cannot open (No such file or directory)"]
-        wanted.append("warcdx-cdx: .: cannot open (Is a directory)")
+        wanted.append("warcdx-cdx: .: cannot open (Is a directory); name the CDX files in it")
         self.assertEqual((LINE, wanted, 3), (found, said.splitlines(), status))
 
 

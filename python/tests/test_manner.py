@@ -1,5 +1,6 @@
 """What all commands have in common: help, version, usage errors, places of options, and the version of Python."""
 import gzip
+import json
 import os
 import pathlib
 import re
@@ -150,6 +151,7 @@ class Messages(Runs):
             (("verify", "."), ".: cannot open (Is a directory); name the archives in it"),
             (("verify", "no*.warc"), "no*.warc: cannot open (No such file or directory); no file has a name of this pattern"),
             (("verify", "http://a/b.warc"), "; it is a URL, and only files are read: fetch it first"),
+            (("cdx", "from", "."), ".: cannot open (Is a directory); name the CDX files in it"),
             (("cdx", "to", "."), ".: cannot open (Is a directory); a folder is an index if warcdx-update has made it"),
             (
                 ("fetch", "--index", index, "http://example.com/0000000"),
@@ -224,6 +226,40 @@ class Messages(Runs):
         self.assertIn(wanted, said)
         self.assertEqual([], list(self.folder.iterdir()))
 
+    def test_the_folder_of_an_output_that_is_not_there(self) -> None:
+        index, query = self.put(lines(1), "a.cdxj"), "url=example.com/*"
+        (self.folder / "data").mkdir()
+        for words in (
+            ("update", "data", "no/such"), ("update", "data", "no/such/"), ("cdx", "to", "-o", "no/such", index), ("verify", "-o", "no/such", index),
+            ("fetch", "--index", index, "--all", "-o", "no/such", query), ("fetch", "--index", index, "--all", "-o", "no/such/", query),
+        ):  # fmt: skip
+            status, found, said = self.run_on_program(*words)
+            self.assertEqual((3, "", 1), (status, found, said.count("\n")), said)
+            self.assertIn(": No such file or directory: its folder isn't there\n", said)
+
+    def test_a_folder_without_archives(self) -> None:
+        (self.folder / "data").mkdir()
+        wanted = "all.cdxj.d: 0 captures of 0 archives; no name in FOLDER ends with .warc or .warc.gz\n"
+        self.assertEqual((0, "", f"warcdx-update: {wanted}"), self.run_on_program("update", "data", "all.cdxj.d"))
+
+    def test_a_database_that_is_none(self) -> None:
+        (self.folder / "data").mkdir()
+        self.assertEqual(0, self.run_on_program("update", "--quiet", "data", "all.cdxj.d")[0])
+        (self.folder / "all.cdxj.d/state.db").write_text(1000 * "x")
+        status, _, said = self.run_on_program("update", "data", "all.cdxj.d")
+        self.assertEqual(3, status)
+        self.assertIn("state.db: file is not a database; restore it from a backup, or move the index away and make it anew\n", said)
+
+    def test_an_archive_that_is_another_one(self) -> None:
+        index = self.put(lines(1), "a.cdxj")
+        name = json.loads(index.read_text().partition("{")[1] + index.read_text().partition("{")[2])["filename"]
+        (self.folder / name).write_bytes((SAMPLES / "response.warc").read_bytes())
+        wanted = "NoRecord: it isn't the archive that was indexed: index it anew, or name another folder by --archives\n"
+        for words in ((), ("--all", "-o", "new")):
+            status, _, said = self.run_on_program("fetch", "--index", index, *words, "http://example.com/0000000")
+            self.assertEqual(1, status)
+            self.assertIn(wanted, said)
+
     def test_what_precedes_is_missing(self) -> None:
         for words, wanted in (
             (("fetch", "http://example.com/", "a.cdxj"), "give one URL, and not 'a.cdxj' too; an index follows --index"),
@@ -239,6 +275,13 @@ class Messages(Runs):
         status, found, said = self.run_on_program("fetch", "--index", index, "--all", "-o", "new", "url=example.com/*&output=json")
         self.assertEqual((1, ""), (status, found))
         self.assertIn("RepeatedParameter in output: warcdx-fetch gives output, fl and showResumeKey itself", said)
+
+    def test_a_blank_in_place_of_the_parameters(self) -> None:
+        status, found, said = self.run_on_program(
+            "fetch", "--index", self.put(lines(1), "a.cdxj"), "--all", "-o", "new", "example.com/* from=2016"
+        )
+        self.assertEqual((1, ""), (status, found))
+        self.assertIn("; & precedes each parameter of a query, as in 'url=example.com/*&from=2016', and %20 is a space\n", said)
 
     def test_a_star_alone(self) -> None:
         status, found, said = self.run_on_program("fetch", "--index", self.put(lines(1), "a.cdxj"), "--all", "-o", "new", "*")

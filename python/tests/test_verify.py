@@ -355,7 +355,9 @@ class Command(Case):
         self.assertEqual({"a", "b", "notes"}, {path.name for path in self.folder.iterdir()})
         self.assertEqual((wanted, "", 1), self.run_command("-o", "-", *names))
         found, said, status = self.run_command("--output=nosuch/report", *names)
-        self.assertEqual(("", "warcdx-verify: nosuch/report: No such file or directory\n", 3), (found, said, status))
+        self.assertEqual(
+            ("", "warcdx-verify: nosuch/report: No such file or directory: its folder isn't there\n", 3), (found, said, status)
+        )
 
     def test_a_signal_leaves_no_new_file(self) -> None:
         os.mkfifo(self.folder / "pipe")

@@ -30,6 +30,7 @@ Exit status:
 import argparse
 import contextlib
 import functools
+import os
 from collections.abc import Sequence
 from typing import IO, BinaryIO, Optional
 
@@ -86,9 +87,9 @@ def to_cdx(given: argparse.Namespace, output: IO[bytes]) -> int:
     return 0
 
 
-def say(fault: Fault) -> int:
-    """Reports a fault of a file, and returns the exit status."""
-    report(NAME, line_of(fault))
+def say(fault: Fault, way: str = "") -> int:
+    """Reports a fault of a file, with what to do, and returns the exit status."""
+    report(NAME, line_of(fault) + way)
     return status_of(fault)
 
 
@@ -110,7 +111,7 @@ def convert(name: str, program: str, output: IO[bytes]) -> int:
         return FAULTY
     except (CannotOpen, Read) as fault:
         fault.file = name
-        return say(fault)
+        return say(fault, "; name the CDX files in it" if os.path.isdir(name) else "")
     return 0
 
 

@@ -292,9 +292,13 @@ def advice_on_name(name: str) -> str:
 
 def failure(name: str, error: Error) -> int:
     """Reports an exception that ends a command on one line, and returns the exit status."""
-    way = "; --program PROGRAM names another one" if isinstance(error, (ProgramMissing, ProgramTooOld)) else ""
-    report(name, printable(str(error).partition("\n")[0]) + way)
+    report(name, printable(str(error).partition("\n")[0]) + way_of(error))
     return FAILED
+
+
+def way_of(error: Exception) -> str:
+    """Returns what to do if a program can't be run, or an empty text."""
+    return "; --program PROGRAM names another one" if isinstance(error, (ProgramMissing, ProgramTooOld)) else ""
 
 
 def status_of(fault: Fault) -> int:

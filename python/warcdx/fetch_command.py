@@ -50,7 +50,7 @@ from .advice import advice_on, advice_on_query
 from .collection import Collection
 from .command import FAILED, FAILURES, FAULTY, Parser, failure, line_of, name_of_file, name_on_disk, printable, report, run, status_of
 from .errors import Error, Fault, NoArchive, Refused
-from .faults import CannotOpen, Read
+from .faults import CannotOpen, NoRecord, Read
 from .fetching import moment_of, nearest, opened_page
 from .outputs import STANDARD, check_that_it_is_new, new_file, output_of
 from .program import operands
@@ -60,6 +60,7 @@ from .refusals import RepeatedParameter
 
 NAME = "warcdx-fetch"
 ARCHIVE = ".warc.gz"
+CHANGED = "it isn't the archive that was indexed: index it anew, or name another folder by --archives"
 WAY = "; --archives FOLDER names the folder below which it has this path"
 OTHERS = (".gz", ".tar", ".wacz", ".warc", ".zip", ".zst")  # endings of files that aren't written
 INSTEAD = {
@@ -151,6 +152,8 @@ def say_there_is_none(given: argparse.Namespace) -> int:
     hint = (
         f"warcdx query 'url={host[1]}/*&fl=original' INDEX shows what there is of the host" if host else "docs/FAQ.md has the usual causes"
     )
+    if " " in given.query:
+        hint = "& precedes each parameter of a query, as in 'url=example.com/*&from=2016', and %20 is a space"
     if "*" in given.query and not given.all:
         hint = "--all takes a URL with *"
     report(NAME, f"{printable(given.query)}: no index has a capture of it; {hint}")
@@ -229,12 +232,12 @@ def say(capture: Capture, error: Error) -> int:
 
 
 def reason_of(error: Error) -> str:
-    return line_of(error) if isinstance(error, Fault) else printable(str(error))
+    return line_of(error, CHANGED if isinstance(error, NoRecord) else "") if isinstance(error, Fault) else printable(str(error))
 
 
 def line_about(fault: Fault, given: argparse.Namespace) -> str:
     """Returns what is said of a fault that ends the command."""
-    advice = "" if fault.file is None else advice_on(fault, fault.file, given.program)
+    advice = CHANGED if isinstance(fault, NoRecord) else "" if fault.file is None else advice_on(fault, fault.file, given.program)
     is_archive = isinstance(fault, CannotOpen) and fault.file not in operands(given.index)
     return line_of(fault, advice) + (WAY if is_archive else "")
 

@@ -48,6 +48,16 @@ def new_file(path: str) -> Iterator[BinaryIO]:
 def check_that_it_is_new(path: str) -> None:
     if os.path.lexists(path):
         raise FileExistsError(errno.EEXIST, "it is there, and isn't replaced; give another name", path)
+    expect_folder(path)
+
+
+def expect_folder(path: str) -> None:
+    """Raises FileNotFoundError if a file can't be made because its folder isn't there."""
+    with contextlib.suppress(PermissionError, NotADirectoryError):  # which are said when it is made
+        try:
+            os.stat(os.path.dirname(path.rstrip("/")) or ".")
+        except FileNotFoundError as error:
+            raise FileNotFoundError(error.errno, f"{error.strerror}: its folder isn't there", path) from None
 
 
 def _give_name(begun: str, path: str) -> None:

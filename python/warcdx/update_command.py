@@ -47,6 +47,7 @@ from typing import BinaryIO, Optional
 from .command import FAILED, Parser, advice_on_name, failure, name_on_disk, number_from, printable, report, run
 from .errors import Error
 from .files import is_in
+from .outputs import expect_folder
 from .program import PACKED, find_packed_program
 from .progress import Lines, Silent, bar_on_terminal
 from .update import Merging, Removal, Update
@@ -144,6 +145,7 @@ def update(given: argparse.Namespace, output: BinaryIO) -> int:
     store = Store(given.index if is_folder else f"{os.path.realpath(given.index)}.d")
     single = None if is_folder else Single(store, given.index)
     expect_usable(given.folder, settings, store)
+    expect_folder(store.folder)
     program = program_of(given)
     work = Update(settings, store, single, program, Merging(given.ratio, given.compact), progress_of(given))
     if given.dry_run:
@@ -236,6 +238,8 @@ def total_of(index: str, outcome: Outcome, known: int) -> str:
     captures = sum(each.captures for each in outcome.reports)
     archives = len(outcome.reports) - counts[Action.REMOVED] - counts[Action.LEFT_OUT]
     total = f"{captures:,} capture{'s' * (captures != 1)} of {archives:,} archive{'s' * (archives != 1)}"
+    if not outcome.reports:
+        total += "; no name in FOLDER ends with .warc or .warc.gz"
     changes = [f"{counts[action]:,} {action.value}" for action in Action if counts[action]]
     if known:
         changes.append(f"{known:,} known to be at fault")

@@ -385,6 +385,7 @@ def _errors_of(path: str) -> Iterator[None]:
         for words, number in (("is full", errno.ENOSPC), ("readonly", errno.EACCES)):
             if words in said:
                 raise OSError(number, os.strerror(number), path) from None
-        raise CannotUpdate(f"{path}: {said}") from None
+        way = f"; {_WAY_OUT}" if type(error) is sqlite3.DatabaseError else ""  # and not one of its kinds: the file is damaged
+        raise CannotUpdate(f"{path}: {said}{way}") from None
     except (OverflowError, UnicodeDecodeError):  # such as of an error that has a part of a damaged text
         raise _changed_by_others(path) from None
