@@ -414,7 +414,7 @@ advises "why: a condition of pywb"  "pywb's filter==FIELD:TEXT is is=FIELD:TEXT 
 advises "why: a pattern of pywb" "pywb's filter=~FIELD:PATTERN has no counterpart here: has=FIELD:TEXT finds a part of a value. $condition" \
     1 query "url=a&filter=~status:2.." sorted.cdxj
 advises "why: another output"       "output is text, json or cdxj. docs/RECIPES.md makes CSV of json."   1 query "url=a&output=csv" sorted.cdxj
-advises "why: a home folder in quotes" "A shell replaces ~ outside of quotes alone: No such file or directory (os error 2)" 3 list "~/a.warc"
+advises "why: a home folder in quotes" "A shell replaces ~ outside of quotes alone: No such file or directory (os error 2)" 3 list \~/a.warc
 advises "why: a space behind a name" "Its name ends with a space: No such file or directory (os error 2)" 3 list "same.warc "
 advises "why: a pattern without a file" "Its name is a pattern that no file matches: No such file or directory (os error 2)" 3 list 'missing-*.warc'
 advises "why: a URL as a file" "Its name is a URL, and only files are read: No such file or directory (os error 2)" 3 list http://example.com/a.warc
