@@ -328,7 +328,7 @@ class Records(support.Pages):
             self.assertEqual(self.all[name], saved.data)
 
     def test_a_download_that_fails_later_is_not_whole(self) -> None:
-        with mock.patch.object(reading, "DOWNLOADED", reading.Limits(size=MEGABYTE)):
+        with mock.patch.object(reading, "DOWNLOADED", reading.Limits(size=MEGABYTE, seconds=60)):
             answer = self.ask("download", what="payload", **self.named("bomb"))
             self.assertEqual(200, answer.status_code)
             with self.assertRaises(BrokenPipeError):
