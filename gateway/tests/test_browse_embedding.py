@@ -9,9 +9,11 @@ from unittest import mock
 from . import browse_support as support
 from .browse_support import Archives, response, revisit
 
-from warcdx_gateway.browse import embedding
+from warcdx_gateway.browse import embedding, reading
 from warcdx_gateway.browse.charsets import charset_of, text_of
 from warcdx_gateway.browse.embedding import MOST_BYTES, PIECE, styled
+from warcdx_gateway.browse.places import Place
+from warcdx_gateway.work import Lease, NeedsSlot
 
 HOME = "http://example.com/a/page"
 DATE, OLD = "2016-03-03T09:34:31Z", "2010-01-01T00:00:00Z"
@@ -217,6 +219,7 @@ class Parts(support.Pages):
             response("http://example.com/a/d.png", DATE, b"<p>no image</p>", "text/html"),
             response("http://example.com/s.css", DATE, style, "text/css"),
             response("http://example.com/many", DATE, b"<img src=/a/b.png>" * 200_000),
+            response("http://example.com/links", DATE, b"<a href=b>" * 400_000),
         ])  # fmt: skip
 
     def test_a_payload_has_the_nearest_captures_of_its_parts(self) -> None:
@@ -225,6 +228,16 @@ class Parts(support.Pages):
         style = b"p { background: url(" + image + b") } @import '/s.css';"
         self.assertIn(b'<img src="' + image + b'"><img src="' + image + b'"><img src=d.png>', found)
         self.assertIn(url_of("text/css", style).encode(), found)
+
+    def test_a_page_of_many_links_waits_for_a_slot(self) -> None:
+        """Otherwise a few of them would keep all workers from others."""
+        collection, work = self.gateway.main, self.gateway.work
+        capture = Place.of({name: str(value) for name, value in self.place("http://example.com/links").items()}).capture(collection)
+        read = reading.read(collection, capture)
+        work.begin(mock.Mock(lease=Lease.FREE))
+        self.addCleanup(work.begin, None)
+        with self.assertRaises(NeedsSlot):
+            list(embedding.embedded(collection, capture, read, str))
 
     def test_what_parts_add_is_bounded(self) -> None:
         content = b"\0" * 100_000
