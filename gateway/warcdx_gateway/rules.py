@@ -264,7 +264,7 @@ def rule_of(table: dict[str, Any], keys: dict[str, str]) -> Rule:
     found = [keys[url] for url in urls_of(table)] + ([key, key.lower()] if key else [])
     if "host" in table or "domain" in table:
         host = found[0].partition(")")[0]
-        if "" in host.split(",") or ":" in host and not host.startswith("["):
+        if ":" in host and not host.startswith("["):
             raise BadSettings(f"it isn't the name of a host alone, such as example.com: {table.get('host') or table.get('domain')}")
         found = [host + end for end in (")", ":", ",")[: 2 + ("domain" in table)]]
     return Rule(
@@ -300,7 +300,8 @@ def keys_by_url(program: str, urls: Sequence[str]) -> dict[str, str]:
     found = [each.key.decode() for each in keys_of(program, [url.encode() for url in urls])]
     keys = dict(zip(urls, found))
     for url in urls:
-        if url not in keys or (url.lower().startswith(WEB) and host_of(keys[url]) is None):
+        host = host_of(keys.get(url, ""))
+        if url not in keys or url.lower().startswith(WEB) and (host is None or "" in host.split(".")):
             raise BadSettings(f"it isn't the URL of a page: {url}")
     return keys
 
