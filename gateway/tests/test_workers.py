@@ -252,6 +252,20 @@ class Ends(Case):
         self.assertEqual(3, server.said.read_text().count("the old settings stay in use"))
         self.assertEqual(0, server.end())
 
+    def test_an_output_that_is_gone_ends_no_gateway(self) -> None:
+        """Workers that end have lines of the access log that they couldn't write."""
+        self.put(lines(10))
+        server = self.start(head='access_log = "-"\n')
+        assert server.process.stdout is not None
+        server.process.stdout.close()
+        for _ in range(9):
+            self.assertEqual(200, server.ask(EXACT).status)
+        before = server.workers()
+        server.process.send_signal(signal.SIGHUP)
+        self.wait_for(lambda: server.workers() and not set(before) & set(server.workers()), "the workers are the old ones")
+        self.assertEqual(200, server.ask(EXACT).status)
+        self.assertEqual((0, ""), (server.end(), server.said.read_text()))
+
     def test_nothing_is_left(self) -> None:
         """Neither a program nor a folder, however the gateway ends."""
         self.put(lines(10))

@@ -95,7 +95,8 @@ class Log(gunicorn.glogging.Logger):
 class Master(gunicorn.arbiter.Arbiter):
     """The process that keeps the workers."""
 
-    is_told = False  # that no worker can be started
+    is_told = False  # that no worker can be started now
+    has_failed = False  # a worker before it answered
 
     def reap_workers(self) -> None:
         """Takes the statuses of workers, and leaves those of the programs that the master has started."""
@@ -108,8 +109,7 @@ class Master(gunicorn.arbiter.Arbiter):
             if found and self.WORKERS.pop(process, None) is not None:
                 worker.tmp.close()
                 self.cfg.child_exit(self, worker)
-                if os.waitstatus_to_exitcode(status) in (self.WORKER_BOOT_ERROR, self.APP_LOAD_ERROR):
-                    raise HaltServer("a worker can't be started")
+                self.has_failed |= os.waitstatus_to_exitcode(status) in (self.WORKER_BOOT_ERROR, self.APP_LOAD_ERROR)
 
     def init_signals(self) -> None:
         super().init_signals()
@@ -117,6 +117,8 @@ class Master(gunicorn.arbiter.Arbiter):
 
     def manage_workers(self) -> None:
         self.reap_workers()  # also one that has ended before it was known
+        if self.has_failed:
+            raise HaltServer("a worker can't be started")
         if self.app.look():
             self.reload()  # which comes back to this
         else:
@@ -146,6 +148,10 @@ class Master(gunicorn.arbiter.Arbiter):
             if not self.is_told:
                 self.is_told = True
                 self.log.error("a worker can't be started: %s", error.strerror)
+        except SystemExit as end:
+            if os.getpid() != self.pid:  # a worker isn't the command, which writes what is left and says how that went
+                os._exit(end.code if isinstance(end.code, int) else 0)
+            raise
         finally:
             if os.getpid() == self.pid:
                 signal.pthread_sigmask(signal.SIG_UNBLOCK, HANDLED)
