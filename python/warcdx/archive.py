@@ -9,6 +9,7 @@ from typing import IO, NamedTuple, Optional, TypeVar
 
 from .errors import Fault, ProgramError, expect_type, number_of
 from .faults import NoRecord, Read, cannot_open
+from .files import open_at_once
 from .iterators import Again
 from .program import Path, find_packed_program, find_program, memory_file, operand, running, started, write_output
 from .record import CLOSING, Record, RecordStream, Unreadable
@@ -320,15 +321,10 @@ def expect_file(path: Path) -> None:
         raise Unreadable(f"{os.fspath(path)}: a pipe can be read only once, by list, verify or index; save it to a file")
 
 
-def _open_at_once(path: str, flags: int) -> int:
-    """Opens a file for `open`, without waiting for who writes a pipe."""
-    return os.open(path, flags | os.O_NONBLOCK)
-
-
 def _first_bytes(path: str) -> Optional[bytes]:
     """Returns the first bytes of a file. Raises CannotOpen or Read."""
     try:
-        file = open(path, "rb", buffering=0, opener=_open_at_once)
+        file = open_at_once(path)
     except OSError as error:
         raise cannot_open(path, error.errno) from error
     with file:

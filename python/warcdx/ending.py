@@ -3,6 +3,7 @@ import contextlib
 import os
 import signal
 import sys
+import threading
 from collections.abc import Iterator
 from types import FrameType
 from typing import Optional
@@ -62,3 +63,22 @@ def blocked() -> Iterator[None]:
         yield
     finally:
         signal.pthread_sigmask(signal.SIG_SETMASK, before)
+
+
+@contextlib.contextmanager
+def uninterrupted() -> Iterator[None]:
+    """Lets an interrupt of the keyboard come only after a block, such as one in which a new process isn't noted yet.
+
+    Unlike those of `blocked`, its processes may be interrupted. In other threads than the main one no interrupt comes.
+    """
+    usual, came = signal.getsignal(signal.SIGINT), list[int]()
+    if not callable(usual) or threading.current_thread() is not threading.main_thread():
+        yield
+        return
+    try:
+        signal.signal(signal.SIGINT, lambda number, frame: came.append(number))
+        yield
+    finally:
+        signal.signal(signal.SIGINT, usual)
+        if came:
+            signal.raise_signal(signal.SIGINT)

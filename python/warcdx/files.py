@@ -1,6 +1,7 @@
 """Files that are made under names of their own, and are on the disk before anything stands on them."""
 import contextlib
 import errno
+import io
 import os
 import shutil
 import stat
@@ -8,6 +9,15 @@ from collections.abc import Iterable, Iterator
 from typing import Optional, Union
 
 Path = Union[str, os.PathLike[str]]
+
+
+def open_at_once(path: Path) -> io.FileIO:
+    """Opens a file to be read, without waiting for who writes a pipe. Raises OSError or ValueError."""
+    return open(path, "rb", buffering=0, opener=_open_at_once)
+
+
+def _open_at_once(path: str, flags: int) -> int:
+    return os.open(path, flags | os.O_NONBLOCK)
 
 
 def is_regular(path: Path, size: Optional[int] = None) -> bool:

@@ -1,12 +1,14 @@
 """The files of an `Index`, which are opened once to see whether they are indexes."""
 import contextlib
 import fcntl
+import io
 import os
 import re
 import stat
 from collections.abc import Sequence
 
 from .faults import BadLine, Read, cannot_open
+from .files import open_at_once
 from .program import running
 from .serve import Files
 from .states import around, runs_of
@@ -25,40 +27,36 @@ def open_files(indexes: Sequence[str], program: str, stack: contextlib.ExitStack
         is_folder = os.path.isdir(index)
         for path in runs_of(index) if is_folder else [index]:
             names.append(path)
-            descriptor = _open(path)
-            if is_folder:
-                # If a standard stream of this process is closed, the file has its number. The program has a pipe there.
-                descriptor, low = fcntl.fcntl(descriptor, fcntl.F_DUPFD_CLOEXEC, 3), descriptor
-                os.close(low)
-                stack.callback(os.close, descriptor)
-                descriptors.append(descriptor)
-                operands.append(f"/dev/fd/{descriptor}")
-            else:
-                try:
-                    _expect_index(path, descriptor, program)
-                finally:
-                    os.close(descriptor)
-                operands.append(path)
+            with _opened(path) as file:
+                if is_folder:
+                    # If a standard stream of this process is closed, the file has its number. The program has a pipe there.
+                    descriptor = fcntl.fcntl(file, fcntl.F_DUPFD_CLOEXEC, 3)
+                    stack.callback(os.close, descriptor)
+                    descriptors.append(descriptor)
+                    operands.append(f"/dev/fd/{descriptor}")
+                else:
+                    _expect_index(path, file, program)
+                    operands.append(path)
     return Files(tuple(names), tuple(operands), tuple(descriptors))
 
 
-def _open(path: str) -> int:
+def _opened(path: str) -> io.FileIO:
     try:
-        descriptor = os.open(path, os.O_RDONLY | os.O_NONBLOCK | os.O_CLOEXEC)
+        file = open_at_once(path)
     except (OSError, ValueError) as error:  # ValueError: such as a path with a NUL
         raise cannot_open(path, getattr(error, "errno", None)) from error
-    if stat.S_ISFIFO(os.fstat(descriptor).st_mode):  # the program would wait for a writer, or hasn't the descriptor of the path
-        os.close(descriptor)
+    if stat.S_ISFIFO(os.fstat(file.fileno()).st_mode):  # the program would wait for a writer, or hasn't the descriptor of the path
+        file.close()
         fault = Read("Read", path)
         fault.advice = "An index is a file, because it is searched: write what a pipe has to a file first."
         raise fault
-    return descriptor
+    return file
 
 
-def _expect_index(path: str, descriptor: int, program: str) -> None:
+def _expect_index(path: str, file: io.FileIO, program: str) -> None:
     """Raises BadLine if a file isn't an index, as its first line shows. Whether it is one, and what else, the program says."""
     try:
-        first = os.pread(descriptor, _AHEAD, 0)
+        first = file.read(_AHEAD) or b""
     except OSError:  # the first query says why
         return
     if _USUAL.match(first):

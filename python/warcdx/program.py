@@ -14,7 +14,7 @@ import time
 from collections.abc import Callable, Iterable, Iterator
 from typing import IO, Any, Optional, Union, cast
 
-from .ending import blocked
+from .ending import blocked, uninterrupted
 from .errors import NO_STATUS, Error, ProgramError, ProgramMissing, ProgramTooOld, ReplyTooLate, expect_type
 from .reported import error_of
 from .streams import whole
@@ -122,6 +122,10 @@ class Process(subprocess.Popen[bytes]):
         self._turn = threading.Lock()  # of the one thread that takes the status
         super().__init__(*arguments, **options)
 
+    def __del__(self) -> None:
+        self.stdin = self.stdout = None  # closes them: Popen keeps a process that runs, which would wait for ever
+        super().__del__()  # type: ignore[misc]
+
     def poll(self) -> Optional[int]:
         if self._has_ended(os.WNOHANG):
             self._take_status()
@@ -166,7 +170,8 @@ def start(
     too. `before` is called in the new process. It makes a start slow if this process has much memory.
     """
     try:
-        return Process(command, stdin=stdin, stdout=subprocess.PIPE, stderr=said, preexec_fn=before, pass_fds=descriptors)
+        with uninterrupted():  # else Popen forgets the process, and nobody takes its status
+            return Process(command, stdin=stdin, stdout=subprocess.PIPE, stderr=said, preexec_fn=before, pass_fds=descriptors)
     except OSError as error:
         raise _not_started(command[0], error) from error
     except subprocess.SubprocessError as error:  # the new process had no memory to do what it does first
@@ -190,7 +195,8 @@ def started(
 
 def memory_file() -> IO[bytes]:
     """Makes a file in memory, for what a program says (Linux). A disk that is full would not take why it failed."""
-    return open(os.memfd_create("warcdx"), "w+b")
+    with uninterrupted():
+        return open(os.memfd_create("warcdx"), "w+b")
 
 
 def close(*files: Optional[IO[bytes]]) -> None:

@@ -134,6 +134,8 @@ class ArchiveFile:
     `size` is that of the file when it was opened, in bytes, and `identity` what no other file has. `end` is the offset up to which records were yielded.
     """
 
+    _number = -1
+
     def __init__(self, path: str) -> None:
         if not stat.S_ISREG(os.stat(path).st_mode):  # to open a pipe would be seen by who writes it
             raise OSError("not a regular file")
@@ -300,7 +302,12 @@ class ArchiveFile:
         return at
 
     def close(self) -> None:
-        os.close(self._number)
+        number, self._number = self._number, -1
+        if number >= 0:
+            os.close(number)
+
+    def __del__(self) -> None:
+        self.close()  # as after an interrupt before the block that closes it
 
     def __enter__(self) -> "ArchiveFile":
         return self
