@@ -16,7 +16,6 @@ import hashlib
 import io
 import os
 import pathlib
-import re
 import sys
 import tarfile
 import time
@@ -62,7 +61,6 @@ indexes over HTTP. It needs Python 3.11 or later, and what `pip install 'warcdx[
 `help(warcdx)` shows all calls, and each command prints its help with `--help`.
 """
 _SETTINGS = Optional[dict[str, object]]
-_FIRST_LINE = re.compile(rb"#!.*")
 
 
 class File(NamedTuple):
@@ -75,13 +73,13 @@ class File(NamedTuple):
 
 def build_wheel(folder: str, config_settings: _SETTINGS = None, metadata_directory: Optional[str] = None) -> str:
     """Writes the wheel of the package, without the programs, and returns its name."""
-    return write_wheel(folder, "py3-none-any", [*modules(), *scripts()])
+    return write_wheel(folder, "py3-none-any", [*modules(), commands()])
 
 
 def build_editable(folder: str, config_settings: _SETTINGS = None, metadata_directory: Optional[str] = None) -> str:
     """Writes a wheel that makes Python read the package in this folder, and returns its name."""
     path = File("warcdx.pth", os.fsencode(f"{HERE}\n{GATEWAY}\n"))
-    return write_wheel(folder, "py3-none-any", [path, *scripts()])
+    return write_wheel(folder, "py3-none-any", [path, commands()])
 
 
 def build_sdist(folder: str, config_settings: _SETTINGS = None) -> str:
@@ -106,7 +104,7 @@ def build_program_wheel(folder: str, programs: pathlib.Path, library: str) -> st
     """Writes a wheel with the programs of a folder, which need this version of the C library, and returns its name."""
     tag = f"py3-none-manylinux_{library.replace('.', '_')}_x86_64"
     files = (File(f"{SCRIPTS}/{name}", (programs / name).read_bytes(), 0o755) for name in PROGRAMS)
-    return write_wheel(folder, tag, [*modules(), *scripts(), *files])
+    return write_wheel(folder, tag, [*modules(), commands(), *files])
 
 
 def modules() -> Iterator[File]:
@@ -131,10 +129,11 @@ def gateway_scripts() -> Iterator[pathlib.Path]:
     return (GATEWAY / "bin").glob("warcdx-*")
 
 
-def scripts() -> Iterator[File]:
-    """Yields the commands. `pip` replaces their first line by one that names its Python."""
-    for path in sorted([*(HERE / "bin").iterdir(), *gateway_scripts()], key=lambda path: path.name):
-        yield File(f"{SCRIPTS}/{path.name}", _FIRST_LINE.sub(b"#!python", path.read_bytes(), count=1), 0o755)
+def commands() -> File:
+    """Returns the file that names the commands. `pip` writes a script for each, which may stand in a folder of any name."""
+    names = sorted(path.name for path in [*(HERE / "bin").iterdir(), *gateway_scripts()])
+    lines = (f"{name} = warcdx_start:{name.removeprefix('warcdx-')}\n" for name in names)
+    return File(f"{INFO}/entry_points.txt", "".join(["[console_scripts]\n", *lines]).encode())
 
 
 def metadata() -> bytes:

@@ -8,6 +8,7 @@ import sys
 if signal.getsignal(signal.SIGINT) is signal.default_int_handler:
     signal.signal(signal.SIGINT, signal.SIG_DFL)
 
+import functools
 import importlib
 import os
 from typing import NoReturn
@@ -64,3 +65,11 @@ def load(module: str):  # type: ignore[no-untyped-def]
     except EOFError:  # a full disk has cut a file of byte code, which Python writes without a look at the count
         sys.pycache_prefix = "/dev/null"
         return importlib.import_module(module)
+
+
+# The commands of an installed package.
+cdx = functools.partial(start, "warcdx.cdx_command")
+fetch = functools.partial(start, "warcdx.fetch_command")
+update = functools.partial(start, "warcdx.update_command")
+verify = functools.partial(start, "warcdx.verify_command")
+gateway = functools.partial(start, "warcdx_gateway.command", (3, 11))

@@ -8,7 +8,6 @@ import pathlib
 import subprocess
 import sys
 import tarfile
-import tempfile
 import unittest
 import zipfile
 
@@ -46,10 +45,8 @@ class Build(Case):
         self.assertEqual(sorted([*(f"warcdx/{name}" for name in MODULES), "warcdx/py.typed", "warcdx_start.py"]), modules)
         wanted = {path.relative_to(GATEWAY).as_posix() for path in (GATEWAY / "warcdx_gateway").rglob("*.*") if path.suffix != ".pyc"}
         self.assertEqual(wanted, {name for name in wheel.namelist() if name.startswith("warcdx_gateway/")})
-        for name in COMMANDS:
-            script = f"warcdx-{VERSION}.data/scripts/{name}"
-            self.assertTrue(wheel.read(script).startswith(b"#!python\n"), name)
-            self.assertEqual(0o755, wheel.getinfo(script).external_attr >> 16 & 0o777)
+        commands = wheel.read(f"warcdx-{VERSION}.dist-info/entry_points.txt").decode().splitlines()
+        self.assertEqual(["[console_scripts]", *(f"{name} = warcdx_start:{name[7:]}" for name in COMMANDS)], commands)
         self.assertEqual(0o644, wheel.getinfo("warcdx/index.py").external_attr >> 16 & 0o777)
 
     def test_the_packages_of_the_gateway_are_those_of_an_extra(self) -> None:
@@ -95,10 +92,8 @@ class Build(Case):
 
     @unittest.skipUnless(HAS_VENV, "ensurepip is missing (Debian's package python3-venv)")
     def test_pip_needs_no_network(self) -> None:
-        # pip writes the path into the first lines of the commands, where a blank would end it.
-        folder = tempfile.TemporaryDirectory(dir="/tmp")
-        self.addCleanup(folder.cleanup)
-        environment = pathlib.Path(folder.name)
+        """The path of the environment may have blanks and many letters, which the first line of a script can't have."""
+        environment = self.folder / "an environment" / ("long" * 30)
         subprocess.run((sys.executable, "-m", "venv", environment), check=True)
         show = "import warcdx; print(warcdx.__version__, warcdx.__file__)"
         for options, place in (((), environment), (("--editable",), PYTHON)):
