@@ -1,5 +1,4 @@
 """Queries over indexes."""
-import gzip
 import json
 import os
 import pathlib
@@ -11,7 +10,7 @@ from unittest import mock
 
 from warcdx import Capture, Refused, ReplyTooLong, faults, refusals
 
-from .support import ALL, LINE, PROGRAM, SAMPLES, Case, lines
+from .support import ALL, LINE, PROGRAM, SAMPLES, Case, lines, packed
 
 # A query for each refusal that a text can have, by the table of docs/QUERY.md.
 REFUSED = {
@@ -120,7 +119,7 @@ class Queries(Case):
         row = "com,example)/ 20160101000000 http://example.com/ text/html 200 AAA - - 100 0 a.warc.gz\n"
         kinds = {
             (SAMPLES / "wget.warc").read_bytes(): "It is a WARC file",
-            gzip.compress(lines(1).encode()): "It is compressed by gzip",
+            packed(lines(1).encode())[0]: "It is compressed by gzip",
             f" CDX N b a m s k r M S V g\n{row}".encode(): "It is a CDX file: ",
             row.encode(): "It seems to be a CDX file without a header",
             row.replace(" - - ", " ").encode(): "It seems to be a CDX file without a header",
