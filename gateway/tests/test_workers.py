@@ -94,7 +94,10 @@ class Workers(Case):
             server = self.start()
         (folder,) = runtime.iterdir()
         maps = [pathlib.Path(f"/proc/{each}/maps") for each in server.workers()]
-        self.wait_for(lambda: all(re.search("/histogram_[0-9]+[.]db", each.read_text()) for each in maps), "workers have no files")
+        kinds = {"counter", "gauge_max", "histogram"}
+        self.wait_for(
+            lambda: all(kinds <= set(re.findall("/([a-z_]+)_[0-9]+[.]db", each.read_text())) for each in maps), "workers have no files"
+        )
         shutil.rmtree(folder)
         for _ in range(3):
             self.assertEqual(20_000, server.ask(ALL).body.count(b"\n"))
