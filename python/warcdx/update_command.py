@@ -76,7 +76,13 @@ def read_arguments(arguments: Optional[Sequence[str]]) -> argparse.Namespace:
     workers = parser.add_mutually_exclusive_group()
     add = parser.add_argument
     add("--recursive", action="store_true", help="also index the archives in the folders below FOLDER")
-    add("--types", type=types_of, default=USUAL, metavar="TYPES", help="the types of records that are indexed, as in warcdx index")
+    add(
+        "--types",
+        type=types_of,
+        default=USUAL,
+        metavar="TYPES",
+        help=f"the types of records that are indexed, of {','.join(TYPES)} (the first three)",
+    )
     add(
         "--remove",
         type=removal_of,
