@@ -121,7 +121,7 @@ def filled(
     """
     page = unconnected(page, go_on)
     made, at, begun, has_base = bytearray(), 0, 0, False
-    for tag in tags_of(page):
+    for tag in tags_of(page, PIECE):
         if tag.end - begun > PIECE or len(made) > PIECE:
             go_on()
             begun = tag.end

@@ -12,10 +12,10 @@ _NAME = rb"[^%b/>][^%b/>=]*+" % (_SPACE, _SPACE)
 _VALUE = rb"""(?:"[^"]*+(?:"|\Z)|'[^']*+(?:'|\Z)|[^"'>%b][^>%b]*+|(?=>)|\Z)""" % (_SPACE, _SPACE)
 _EQUALS = rb"[%b]*+=[%b]*+" % (_SPACE, _SPACE)
 ATTRIBUTE = re.compile(rb"(%b)(?:%b(%b))?+" % (_NAME, _EQUALS, _VALUE))
-_START = re.compile(rb"<(?:(/?)([A-Za-z][^%b/>]*+)|!--|[!?/])" % _SPACE)
-_REST = re.compile(rb"(?:[%b/]*+%b(?:%b%b)?+)*+[%b/]*+>" % (_SPACE, _NAME, _EQUALS, _VALUE, _SPACE))
-_COMMENT = re.compile(rb"(?:-?|.*?--!?)>", re.DOTALL)
-_OTHER = re.compile(rb"[^>]*+>")
+_ATTRIBUTES = rb"(?:[%b/]*+%b(?:%b%b)?+)*+[%b/]*+" % (_SPACE, _NAME, _EQUALS, _VALUE, _SPACE)
+_COMMENT = rb"!--(?:-?(?=>)|.*?--!?(?=>)|.*+)"
+# A tag, a comment or what is like one, with its end if it has one.
+_TOKEN = re.compile(rb"<(?:(/?)([A-Za-z][^%b/>]*+)%b|%b|[!?/][^>]*+)(>|\Z)" % (_SPACE, _ATTRIBUTES, _COMMENT), re.DOTALL)
 _RAW = (b"script", b"style", b"textarea", b"title", b"xmp", b"iframe", b"noembed", b"noframes")  # whose content has no tags
 _RAW_ENDS = {name: re.compile(rb"</%b(?=[%b/>])|\Z" % (name, _SPACE), re.IGNORECASE) for name in _RAW}
 _FOREIGN = (b"svg", b"math")  # in which most of these are elements like others
@@ -25,7 +25,7 @@ _REFERENCE = re.compile(r"&(?:#(?:[0-9]{1,9}|[xX][0-9A-Fa-f]{1,8});?|([A-Za-z][A
 class Tag(NamedTuple):
     """The tag with which an element begins: its name in lower case, its place, and where its raw content ends.
 
-    The attributes are between `start` and `end`, at which there is `>`. What isn't such a tag has no name and no attributes.
+    The attributes are between `start` and `end`, at which there is `>`. One without a name is none.
     """
 
     name: bytes
@@ -34,25 +34,27 @@ class Tag(NamedTuple):
     raw_end: int
 
 
-def tags_of(page: bytes) -> Iterator[Tag]:
-    """Yields all tags, and what is like one, as a comment. What has no end is none, nor is what follows it."""
-    at, foreign = 0, 0
-    while found := _START.search(page, at):
-        name, is_end = (found[2] or b"").lower(), bool(found[1])
-        rest = (_REST if name else _COMMENT if found[0] == b"<!--" else _OTHER).match(page, found.end())
-        if rest is None or name == b"plaintext":
+def tags_of(page: bytes, step: int) -> Iterator[Tag]:
+    """Yields the tags with which elements begin, and something each `step` bytes. What has no end is none, nor is what follows it."""
+    at, yielded, foreign = 0, 0, 0
+    while (found := _TOKEN.search(page, at)) and found[3]:
+        name, at = (found[2] or b"").lower(), found.end()
+        if name == b"plaintext":
             return
-        at, is_closed = rest.end(), page[rest.end() - 2 : rest.end()] == b"/>"
-        if name in _FOREIGN and not is_closed:
-            foreign = max(foreign + (-1 if is_end else 1), 0)
-        if is_end or not name:
-            yield Tag(b"", at - 1, at - 1, at)
+        if name in _FOREIGN and page[at - 2 : at] != b"/>":
+            foreign = max(foreign + (-1 if found[1] else 1), 0)
+        if found[1] or not name:
+            if at - yielded > step:
+                yielded = at
+                yield Tag(b"", at, at, at)
             continue
-        if name in _RAW_ENDS and not (foreign and (is_closed or name != b"style")):
-            content_end = _RAW_ENDS[name].search(page, at)
-            assert content_end is not None
-            at = content_end.start()
-        yield Tag(name, found.end(), rest.end() - 1, at)
+        start = found.end(2)
+        if name in _RAW_ENDS and not (foreign and (page[at - 2 : at] == b"/>" or name != b"style")):
+            end = _RAW_ENDS[name].search(page, at)
+            assert end is not None
+            at = end.start()
+        yielded = at
+        yield Tag(name, start, found.start(3), at)
 
 
 def attributes_of(tag: bytes) -> dict[str, str]:
