@@ -137,9 +137,9 @@ class Served(Case):
             self.wait_for(lambda: server.ask("/two").status == 404 and "/two" in log.read_text(), "it isn't used")
             log.unlink()
         folder.rename(self.folder / "gone")
-        for number in (signal.SIGUSR1, signal.SIGHUP):
+        for count, number in enumerate((signal.SIGUSR1, signal.SIGHUP), 1):
             server.process.send_signal(number)
-            self.wait_for(lambda: "the access log stays the one of before" in server.said.read_text(), "nothing is said")
+            self.waits_for_word(server, "the access log stays the one of before", count)
             for _ in range(9):
                 self.assertEqual(200, server.ask("/cdx?url=example.com").status)
         self.assertNotIn("Traceback", server.said.read_text())

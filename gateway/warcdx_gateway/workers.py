@@ -25,6 +25,7 @@ from .work import MOST_FREE, Connection, Lease, NeedsSlot
 
 HANDLED = (signal.SIGTERM, signal.SIGINT, signal.SIGQUIT, signal.SIGABRT, signal.SIGUSR1)  # by a worker
 LATER = (signal.SIGHUP, signal.SIGUSR1)  # which wait until the gateway answers
+MASTER = os.getpid()  # which loads this
 SILENCE = 2  # seconds for a client to send its request when a worker ends
 PAUSE = 0.05  # seconds until a worker looks again for a slot for those that wait
 VERSIONS = ((1, 0), (1, 1))
@@ -82,7 +83,8 @@ class Log(gunicorn.glogging.Logger):
                 try:
                     before, handler.stream = handler.stream, handler._open()
                 except OSError as error:
-                    self.warning("the access log stays the one of before: %s", error)
+                    if os.getpid() == MASTER:
+                        self.warning("the access log stays the one of before: %s", error)
                 else:
                     with contextlib.suppress(OSError):  # a line that can't be written is lost
                         before.close()
