@@ -46,7 +46,7 @@ class Case(unittest.TestCase):
         if rules:
             (self.folder / "rules").write_text(rules)
             text = RulesFile(self.folder / "rules", PROGRAM, ["main"]).text
-            self.gateway.main.rules = rules_of(text, "main")
+            self.gateway.main.rules = rules_of(text, ["main"])["main"]
         return Client(self.gateway)
 
     def ask(self, client: Client, query: str) -> str:

@@ -219,7 +219,7 @@ class Random(unittest.TestCase):
         path.write_text(rules)
         each = CollectionSettings("crawl", "A crawl", (index,), (self.archives.archives,))
         gateway = gateway_of(self, Settings((each,), "crawl", program=PROGRAM))
-        gateway.main.rules = rules_of(RulesFile(path, PROGRAM, ["crawl"]).text, "crawl")
+        gateway.main.rules = rules_of(RulesFile(path, PROGRAM, ["crawl"]).text, ["crawl"])["crawl"]
         return gateway
 
     def test_what_is_excluded_is_as_if_it_were_not_there(self) -> None:

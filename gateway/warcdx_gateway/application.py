@@ -128,8 +128,7 @@ class Gateway:
 
     def _look_again(self) -> None:
         if (text := self._rules_board.read()) != self._rules:
-            found = {name: rules_of(text, name) for name in self.collections}
-            for name, rules in found.items():
+            for name, rules in rules_of(text, self.collections).items():
                 self.collections[name].rules = rules
             self._rules = text
         for _ in range(TRIES):  # while the master goes on to other files

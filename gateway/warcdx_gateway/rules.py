@@ -19,7 +19,7 @@ from .refusal import say
 from .rows import DIGEST, KEY, STAMP
 from .settings import BadSettings, named, tables_of
 
-MOST = 32 << 20  # bytes of the rules as the workers get them
+MOST = 16 << 20  # bytes of the rules as the workers get them, each of which needs some fifteen times as many
 NONE = b"[]"  # the text of no rules
 ACTIONS = {"metadata": 1, "exclude": 2}
 STARLESS = ("url", "prefix", "host", "domain")  # in which a star, as of a query, would be a character like any other
@@ -306,10 +306,12 @@ def keys_by_url(program: str, urls: Sequence[str]) -> dict[str, str]:
     return keys
 
 
-def rules_of(text: bytes, collection: str) -> Rules:
-    """Returns the rules of a collection."""
-    rules = (Rule(*each) for each in json.loads(text or b"[]"))
-    return Rules(rule for rule in rules if rule.collection in ("", collection))
+def rules_of(text: bytes, collections: Iterable[str]) -> dict[str, Rules]:
+    """Returns the rules of collections. Those without rules of their own have the same ones, as there may be many."""
+    rules = [Rule(*each) for each in json.loads(text or b"[]")]
+    shared, named = Rules(rule for rule in rules if not rule.collection), {rule.collection for rule in rules}
+    own = {name: Rules(rule for rule in rules if rule.collection in ("", name)) for name in collections if name in named}
+    return {name: own.get(name, shared) for name in collections}
 
 
 def today() -> datetime.date:
