@@ -67,18 +67,22 @@ def blocked() -> Iterator[None]:
 
 @contextlib.contextmanager
 def uninterrupted() -> Iterator[None]:
-    """Lets an interrupt of the keyboard come only after a block, such as one in which a new process isn't noted yet.
+    """Lets the handlers of signals run only after a block, such as one in which a new process isn't noted yet.
 
-    Unlike those of `blocked`, its processes may be interrupted. In other threads than the main one no interrupt comes.
+    Unlike in `blocked`, what is started may be ended by signals. Handlers run in the main thread alone.
     """
-    usual, came = signal.getsignal(signal.SIGINT), list[int]()
-    if not callable(usual) or threading.current_thread() is not threading.main_thread():
+    came: list[int] = []
+    with contextlib.ExitStack() as stack:
+        if threading.current_thread() is threading.main_thread():
+            stack.callback(_raise_all, came)
+            for number in _SIGNALS:
+                usual = signal.getsignal(number)
+                if callable(usual):
+                    stack.callback(signal.signal, number, usual)
+                    signal.signal(number, lambda number, frame: came.append(number))
         yield
-        return
-    try:
-        signal.signal(signal.SIGINT, lambda number, frame: came.append(number))
-        yield
-    finally:
-        signal.signal(signal.SIGINT, usual)
-        if came:
-            signal.raise_signal(signal.SIGINT)
+
+
+def _raise_all(numbers: list[int]) -> None:
+    for number in numbers:
+        signal.raise_signal(number)

@@ -3,7 +3,6 @@ import contextlib
 import errno
 import io
 import os
-import shutil
 import stat
 from collections.abc import Iterable, Iterator
 from typing import Optional, Union
@@ -51,6 +50,8 @@ def move(path: Path, new_path: Path) -> None:
 
 
 def _copy(path: Path, new_path: Path) -> None:
+    import shutil  # which takes long to load, and is seldom needed
+
     with open(path, "rb") as source, open(new_path, "xb") as file, _removed_if_failed(new_path):
         shutil.copyfileobj(source, file)
         file.flush()

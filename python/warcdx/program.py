@@ -6,7 +6,6 @@ import io
 import os
 import re
 import select
-import shutil
 import subprocess
 import sys
 import threading
@@ -38,14 +37,18 @@ def find_program(program: Path) -> str:
     """
     expect_type("program", program, (str, os.PathLike), "a text or a Path")
     name = os.fspath(program)
-    path = shutil.which(name)
-    if path is None and "/" not in name:
-        path = shutil.which(name, path=os.pathsep.join((os.path.dirname(sys.executable), *_bin_of_release())))
+    path = executable(name, (os.path.dirname(sys.executable), *_bin_of_release()))
     if path is None:
         raise ProgramMissing(f"{name}: no such program" + ("" if "/" in name else " on the PATH"))
     path = os.path.abspath(path)
     check_version(path)
     return path
+
+
+def executable(name: str, folders: Iterable[str] = ()) -> Optional[str]:
+    """Returns the path of a program: a name without `/` is looked up on the PATH, and then in these folders."""
+    paths = [name] if "/" in name else [os.path.join(folder, name) for folder in (*os.get_exec_path(), *folders)]
+    return next((path for path in paths if os.path.isfile(path) and os.access(path, os.X_OK)), None)
 
 
 def _bin_of_release() -> tuple[str, ...]:

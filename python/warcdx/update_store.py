@@ -41,21 +41,28 @@ class Store:
 
     def is_made(self) -> bool:
         """Returns whether the folder is one of an index. Raises CannotUpdate if it is used otherwise."""
-        try:
-            names = set(os.listdir(self.folder))
-        except FileNotFoundError:
-            return False
-        if DATABASE in names and is_regular(self._path):
+        if is_regular(self._path):
             with self._connected():
-                if self._is_filled():
-                    return True
-                if not self._ask("SELECT 1 FROM sqlite_master LIMIT 1"):
-                    names -= _BEGUN
+                return self._is_made()
+        self._expect_unused(set())
+        return False
+
+    def _is_made(self) -> bool:
+        if self._is_filled():
+            return True
+        self._expect_unused(set() if self._ask("SELECT 1 FROM sqlite_master LIMIT 1") else _BEGUN)
+        return False
+
+    def _expect_unused(self, begun: "set[str]") -> None:
+        """Raises CannotUpdate if the folder has something else than what was begun."""
+        try:
+            names = set(os.listdir(self.folder)) - begun
+        except FileNotFoundError:
+            return
         if {states.CURRENT, *states.FOLDERS} <= names:
             raise _changed_by_others(self._path) if os.path.lexists(self._path) else CannotUpdate(f"{self._path} is missing; {_WAY_OUT}")
         if names:
             raise CannotUpdate(f"warcdx-update hasn't made all that is in {self.folder}, and doesn't use it; give another INDEX")
-        return False
 
     def _is_filled(self) -> bool:
         """Returns whether the database has the tables of an index. Raises CannotUpdate if others have changed them."""
@@ -74,11 +81,12 @@ class Store:
 
         What is made here is removed if nothing but the database was made. A folder that was there before stays.
         """
-        self.is_made()  # so that nothing is made in a folder that is used otherwise
+        if not is_regular(self._path) or is_regular(self._path, 0):
+            self.is_made()  # so that nothing is made in a folder that is used otherwise
         is_own = states.make_folder(self.folder)
         try:
             with self._connected(is_alone=True):
-                is_new = not self._is_filled()  # another run may have filled it since
+                is_new = not self._is_made()  # another run may have filled it since
                 try:
                     if is_new:
                         self._make(settings)

@@ -29,7 +29,7 @@ _CAPTURE = re.compile(
     rb'^([^ \n]*) ([0-9]{4})[0-9]{10} \{"url": "%b", "mime": "%b", "status": "%b"[^\n]*\n' % (_URL, _TEXT, _TEXT), re.MULTILINE
 )
 _NAME = b', "filename": '  # isn't in a text of JSON
-_REASON = re.compile(r"\n  (.*) \(os error [0-9]+\)(?=\n|\Z)")  # the second line of a message about a failed call of the system
+_REASON = r"\n  (.*) \(os error [0-9]+\)(?=\n|\Z)"  # the second line of a message about a failed call of the system
 _FRONT = operator.itemgetter(slice(256))  # bytes of a value
 _PIECE = 1 << 20  # bytes
 _LARGEST = (1 << 63) - 1  # that SQLite has
@@ -341,5 +341,5 @@ def _text_of(said: IO[bytes], front: str = "") -> str:
     """
     said.seek(0)
     text = said.read().decode(errors="replace")
-    lines = _REASON.sub(r" (\1)", text.partition(front)[2] if front else text).split("\n")
+    lines = re.sub(_REASON, r" (\1)", text.partition(front)[2] if front else text).split("\n") if text else ()
     return "\n".join(line for line in lines if line and not line.startswith("  "))

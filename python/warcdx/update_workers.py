@@ -3,7 +3,6 @@ import contextlib
 import errno
 import functools
 import os
-import shutil
 import signal
 import subprocess
 import threading
@@ -11,7 +10,8 @@ from collections.abc import Callable, Iterator, Sequence
 from typing import Any
 
 from . import update_tasks
-from .ending import blocked
+from .ending import blocked, uninterrupted
+from .program import executable
 from .update_tables import CannotUpdate
 from .update_tasks import Failed
 
@@ -59,18 +59,40 @@ class Threads(Workers):
     """Threads of this process, each of which runs one program at a time. The programs end with it, also if it is killed."""
 
     def __init__(self, jobs: int) -> None:
-        from concurrent.futures import ThreadPoolExecutor
-
         super().__init__()
-        # A function that subprocess calls in the new process would do the same, but makes a start slower the more memory this process has.
-        self._front = _ENDING_WITH_STARTER if _runs(*_ENDING_WITH_STARTER, "true") else ()
+        self._jobs = jobs
         self._lock = threading.Lock()
         self._running: set[subprocess.Popen[bytes]] = set()
         self._is_ended = False
         self._words = {"start": self._start}
         self._threads: list[threading.Thread] = []  # that may run tasks
-        self._executor = ThreadPoolExecutor(jobs, "", self._begin)
         self.callback(self._end)
+
+    def run(self, task: Task, arguments: Sequence[tuple[Any, ...]]) -> Outcomes:
+        """Runs a task once with each of these arguments. One alone needs no thread, and the modules for these take long to load."""
+        if len(arguments) != 1:
+            yield from super().run(task, arguments)
+            return
+        outcome: Any
+        try:
+            outcome = task(*arguments[0], **self._words)
+        except Exception as error:
+            outcome = error
+        yield 0, outcome
+
+    @functools.cached_property
+    def _executor(self) -> Any:
+        from concurrent.futures import ThreadPoolExecutor
+
+        return ThreadPoolExecutor(self._jobs, "", self._begin)
+
+    @functools.cached_property
+    def _front(self) -> tuple[str, ...]:
+        """What stands before a command, so that it ends with this process.
+
+        A function that subprocess calls in the new process would do the same, but makes a start slower the more memory this process has.
+        """
+        return _ENDING_WITH_STARTER if _runs(*_ENDING_WITH_STARTER, "true") else ()
 
     def _begin(self) -> None:
         """Begins a thread, whose programs have its mask of signals."""
@@ -83,17 +105,19 @@ class Threads(Workers):
             self._is_ended = True
             for process in self._running:
                 process.kill()
-        self._executor.shutdown(cancel_futures=True)
+        if "_executor" in self.__dict__:
+            self._executor.shutdown(cancel_futures=True)
         for thread in self._threads:  # the executor doesn't know of one that it was starting when another one took a signal
             thread.join()
 
     def _start(self, command: Sequence[str], **options: Any) -> "subprocess.Popen[bytes]":
-        if shutil.which(command[0]) is None:
+        if executable(command[0]) is None:
             raise FileNotFoundError(errno.ENOENT, os.strerror(errno.ENOENT), command[0])
         with self._lock:
             if self._is_ended:
                 raise Failed("the work is ended")
-            process: subprocess.Popen[bytes] = subprocess.Popen((*self._front, *command), **options)
+            with uninterrupted():
+                process: subprocess.Popen[bytes] = subprocess.Popen((*self._front, *command), **options)
             self._running = {each for each in self._running if each.returncode is None} | {process}
             return process
 
