@@ -196,7 +196,7 @@ class Filling(unittest.TestCase):
                     self.assertGreater(steps.call_count, LONG // PIECE - 2, part)
 
     def test_a_page_of_many_links_takes_little_memory(self) -> None:
-        page, size = b"<a href=b>" * 400_000, 0
+        page, size = b"<a href=b>" * 50_000, 0
         tracemalloc.start()
         self.addCleanup(tracemalloc.stop)
         for piece in embedding.filled(page, HOME, named, lambda url: f"/web/20160303000000/{url}"):
@@ -204,6 +204,9 @@ class Filling(unittest.TestCase):
             self.assertLess(len(piece), 2 * PIECE)
         self.assertGreater(size, 5 * len(page))
         self.assertLess(tracemalloc.get_traced_memory()[1], 4 * len(page))
+        tracemalloc.reset_peak()
+        list(embedding.filled(b"<style>" + b"url()" * 100_000, HOME, named))
+        self.assertLess(tracemalloc.get_traced_memory()[1], 8 * len(page))
 
 
 class Parts(support.Pages):

@@ -291,6 +291,9 @@ class Counts(unittest.TestCase):
                     metrics.count(f"{number:0100}", 200)
                 metrics.seconds.observe(1)
             said.assert_called_once_with("a process has no room for its counts, which are lost: No space left on device")
+            with mock.patch("warcdx_gateway.shared.allocate", side_effect=AssertionError):  # of a name that another file may have
+                for number in range(1000, 3000):
+                    metrics.count(f"{number:0100}", 200)
             self.assertEqual(is_seated, b"warcdx_gateway_requests_total{" in metrics.text())
 
 

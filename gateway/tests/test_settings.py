@@ -36,8 +36,8 @@ class Files(Case):
             (f'rules = "a\\u0000b"\n{GOOD}', "'rules' has to be a text without U+0000"),
             (f'{GOOD}archives = ["a\\u0000b"]\n', "'collections.main.archives' has to be a list of texts"),
             (f"{GOOD}[limits]\nquery = {10**12}\n", "'limits.query' has to be a number from 1 to 1000000"),
-            ('[collections.main-cdx]\nindexes = ["index"]\n', "'collections.main-cdx' can't be the name of a collection: it ends with "),
-            ('[collections.a-index]\nindexes = ["index"]\n', "'collections.a-index' can't be the name of a collection: it ends with "),
+            ('[collections.main-cdx]\nindexes = ["index"]\n', "'collections.main-cdx' can't be the name of a collection: it has letters, "),
+            ('[collections.a-index]\nindexes = ["index"]\n', "'collections.a-index' can't be the name of a collection: it has letters, "),
         ):
             self.assertIn(wanted, self.refused(self.put(text, "settings.toml")))
         (self.folder / "bytes").write_bytes(b"# \xe9\n" + GOOD.encode())

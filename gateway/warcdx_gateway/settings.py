@@ -175,11 +175,10 @@ def settings_of(table: dict[str, Any], folder: pathlib.Path) -> Settings:
     collections = tuple(collection_of(name, each, folder) for name, each in tables.items())
     limits = limits_of(table.pop("limits", {}))
     given: dict[str, Any] = {"main": collections[0].name, **values_of(Settings, table)}
-    for name, others in (("rules", ("",)), ("access_log", ("", "-"))):
-        if (path := given.get(name, "")) not in others:
+    for name in ("rules", "access_log", "program"):
+        path = given.get(name, "")
+        if path not in ("", "-") and (name != "program" or "/" in path):
             given[name] = str((folder / path).absolute())
-    if "/" in given.get("program", ""):
-        given["program"] = str((folder / given["program"]).absolute())
     settings = Settings(collections=collections, limits=limits, **given)
     main = [each for each in collections if each.name == settings.main]
     require(bool(main), "main", "is not the name of a collection")
@@ -262,10 +261,8 @@ def limits_of(table: object) -> Limits:
 def collection_of(name: str, table: object, folder: pathlib.Path) -> CollectionSettings:
     where = f"collections.{name}"
     why = f"can't be the name of a collection: it has letters, digits, '.', '_' and '-', and isn't {', '.join(RESERVED)}"
-    require(bool(NAME.fullmatch(name)) and name not in RESERVED, where, why)
-    require(
-        not name.endswith(ENDS), where, f"can't be the name of a collection: it ends with {' or '.join(ENDS)}, as paths of another one do"
-    )
+    is_name = bool(NAME.fullmatch(name)) and name not in RESERVED and not name.endswith(ENDS)
+    require(is_name, where, f"{why}, and doesn't end with {' or '.join(ENDS)}")
     given: dict[str, Any] = {"title": name, **values_of(CollectionSettings, table, where)}
     for kind in ("indexes", "archives", "links"):
         given[kind] = tuple((folder / each).absolute() for each in given.get(kind, ()))

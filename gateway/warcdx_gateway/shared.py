@@ -112,7 +112,7 @@ class CountsFile(MmapedDict):  # type: ignore[misc]
 
     def __init__(self, filename: str) -> None:
         try:
-            allocate(filename, FILE)
+            allocate(filename)
             super().__init__(filename)
         except OSError as error:
             self._go_on_in_memory(error)
@@ -120,7 +120,7 @@ class CountsFile(MmapedDict):  # type: ignore[misc]
     def _init_value(self, key: str) -> None:
         if self._used + len(key.encode()) + MOST_ADDED > self._capacity:
             try:
-                allocate(self._fname, 2 * self._capacity)
+                os.posix_fallocate(self._f.fileno(), 0, 2 * self._capacity)
             except OSError as error:
                 self._go_on_in_memory(error, self._m[:])
         super()._init_value(key)
@@ -135,11 +135,11 @@ class CountsFile(MmapedDict):  # type: ignore[misc]
             say(f"a process has no room for its counts, which are lost: {error.strerror}")
 
 
-def allocate(name: "str | os.PathLike[str]", size: int) -> None:
-    """Makes a file of some bytes, for which the disk has room. Raises OSError, and then leaves no empty file."""
+def allocate(name: "str | os.PathLike[str]") -> None:
+    """Makes a file of counts, for which the disk has room. Raises OSError, and then leaves no empty file."""
     with open(name, "ab") as file:  # of which another process may have a part already
         try:
-            os.posix_fallocate(file.fileno(), 0, size)
+            os.posix_fallocate(file.fileno(), 0, FILE)
         except OSError:
             if not os.fstat(file.fileno()).st_size:
                 os.unlink(name)
@@ -207,7 +207,7 @@ class Metrics:
 
     def _fill(self) -> None:
         for name in self._files:
-            allocate(name, FILE)
+            allocate(name)
 
     def text(self) -> bytes:
         """Returns all counts in the text format of Prometheus."""

@@ -214,21 +214,20 @@ def styled(style: bytes, base: str, url: Url) -> bytes:
     """Returns a style sheet in which the URLs of images are those that `url` returns."""
 
     def imported(found: "re.Match[bytes]") -> bytes:
-        made = url(joined(base, _named(found[1])), _STYLE)
-        return found[0] if made is None else b'@import "' + made.encode() + b'"'
+        sheet = url(joined(base, _named(found[1])), _STYLE)
+        return found[0] if sheet is None else b'@import "' + sheet.encode() + b'"'
 
     style = _IMPORT.sub(imported, style)
-    done, at = [], 0
+    made, at = bytearray(), 0
     while (start := style.find(b"url(", at)) >= 0 and (end := style.find(b")", start)) >= 0:
         value = style[start + 4 : end].strip()
         is_import = style[max(0, start - 20) : start].rstrip().lower().endswith(b"@import")
-        made = None
+        found = None
         if len(value) <= MOST_URL and not value.startswith(b"data:"):
-            made = url(joined(base, _named(value)), _STYLE if is_import else "")
-        done.append(style[at : start + 4] + (value if made is None else made.encode()))
+            found = url(joined(base, _named(value)), _STYLE if is_import else "")
+        made += style[at : start + 4] + (value if found is None else found.encode())
         at = end
-    done.append(style[at:])
-    return b"".join(done)
+    return bytes(made) + style[at:]
 
 
 def _named(value: bytes) -> str:
