@@ -10,7 +10,7 @@ import unittest
 from collections.abc import Callable, Iterator
 
 from .costs import is_idle, processor_time
-from .support import LINE, PROGRAM, ROOT, SAMPLE, Case, Client, Server, connected, lines
+from .support import LINE, PROGRAM, SAMPLE, Case, Client, Server, connected, lines
 
 EXACT = "/cdx?url=example.com/0000007&fl=length"
 ALL = "/cdx?url=example.com/*"
@@ -387,22 +387,6 @@ class Requests(Case):
             with connected(server) as client:
                 client.send(f"GET /cdx?url=a HTTP/1.1\r\nHost: {host}\r\n\r\n".encode())
                 self.assertEqual(status, client.response().status, host)
-
-
-class Planted(Case):
-    def test_code_beside_the_gateway_does_not_run(self) -> None:
-        """A folder `python` of another owner, or without the package, isn't used."""
-        tree = self.folder / "shared"
-        (tree / "gateway").mkdir(parents=True)
-        for name in ("bin", "warcdx_gateway"):
-            (tree / "gateway" / name).symlink_to(ROOT / "gateway" / name)
-        subprocess.run(("cp", "-r", ROOT / "gateway", tree / "copied"), check=True)
-        (tree / "python/warcdx").mkdir(parents=True)
-        (tree / "python/warcdx/__init__.py").write_text("print('PLANTED')\n")
-        for folder in (tree / "copied", tree / "gateway"):
-            command = (sys.executable, folder / "bin/warcdx-gateway", "--help")
-            done = subprocess.run(command, stdout=subprocess.PIPE, stderr=subprocess.STDOUT, text=True)
-            self.assertNotIn("PLANTED", done.stdout)
 
 
 if __name__ == "__main__":

@@ -2,6 +2,7 @@
 import os
 import pathlib
 import subprocess
+import sys
 import unittest
 from unittest import mock
 
@@ -156,6 +157,22 @@ class Starts(Case):
         server = self.start()
         self.assertEqual(b"300\n", server.ask("/main/cdx?url=example.com/a&fl=length").body)
         self.assertEqual("/main/cdx\tmain\n", server.ask("/").text)
+
+
+class Planted(Case):
+    def test_code_beside_the_gateway_does_not_run(self) -> None:
+        """A folder `python` of another owner, or without the package, isn't used."""
+        tree = self.folder / "shared"
+        (tree / "gateway").mkdir(parents=True)
+        for name in ("bin", "warcdx_gateway"):
+            (tree / "gateway" / name).symlink_to(ROOT / "gateway" / name)
+        subprocess.run(("cp", "-r", ROOT / "gateway", tree / "copied"), check=True)
+        (tree / "python/warcdx").mkdir(parents=True)
+        (tree / "python/warcdx/__init__.py").write_text("print('PLANTED')\n")
+        for folder in (tree / "copied", tree / "gateway"):
+            command = (sys.executable, folder / "bin/warcdx-gateway", "--help")
+            done = subprocess.run(command, stdout=subprocess.PIPE, stderr=subprocess.STDOUT, text=True)
+            self.assertNotIn("PLANTED", done.stdout)
 
 
 if __name__ == "__main__":
