@@ -120,7 +120,7 @@ class Master(gunicorn.arbiter.Arbiter):
     def manage_workers(self) -> None:
         self.reap_workers()  # also one that has ended before it was known
         if self.has_failed:
-            raise HaltServer("a worker can't be started")
+            raise HaltServer("the workers can't be started, as for want of memory")
         if self.app.look():
             self.reload()  # which comes back to this
         else:
