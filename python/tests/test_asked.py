@@ -227,6 +227,19 @@ class Results(Case):
         self.assertIsInstance(faults.cannot_open("a", 13), PermissionError)
         self.assertNotIsInstance(faults.cannot_open("a", 40), OSError)
 
+    def test_what_a_name_or_a_file_is_taken_for_is_said(self) -> None:
+        index = self.put(lines(1))
+        for call in (self.open(index).columns, self.open(index).rows):
+            self.assertEqual("fields", self.raises(refusals.BadField, call, "timestamp,url").parameter)
+        archive = open_archive(index, program=PROGRAM)
+        for call in (lambda: list(archive), lambda: next(archive.list()), lambda: next(archive.verify()), lambda: archive.get(0)):
+            self.assertIn("Version at 0 (It seems to be an index: ", str(self.raises(faults.Version, call)))
+        for name, said in (("http://a.com/a.warc", "it is a URL"), ("*.warc", "no file has a name of this pattern")):
+            self.assertIn(said, str(self.raises(faults.CannotOpen, open_archive, name, program=PROGRAM)))
+        self.put("", "a.warc")
+        fault = self.raises(faults.CannotOpen, Collection, index, self.folder / "a.warc", program=PROGRAM)
+        self.assertEqual(f"{self.folder}/a.warc: CannotOpen (Not a directory)", str(fault))
+
 
 if __name__ == "__main__":
     unittest.main()

@@ -7,6 +7,7 @@ import stat
 from collections.abc import Generator, Iterator
 from typing import IO, NamedTuple, Optional, TypeVar
 
+from .advice import advice_on
 from .errors import Fault, ProgramError, expect_type, number_of
 from .faults import NoRecord, Read, cannot_open
 from .files import open_at_once
@@ -272,7 +273,10 @@ class Archive:
     def _expect_end(self, command: str, line: bytes) -> None:
         """Raises why a line of a report isn't about a record, unless the program was ended in it."""
         if found := _FAULT.fullmatch(line):
-            raise fault(found[2].decode(), self.path, int(found[1]))
+            error = fault(found[2].decode(), self.path, int(found[1]))
+            if not _is_read_once(self.path):
+                error.advice = advice_on(error, self.path, self._program)
+            raise error
         if line.endswith(b"\n"):
             raise ProgramError(f"warcdx {command} has written {line!r:.100}")
 

@@ -1,11 +1,13 @@
 """Indexes and the archives that they name: from a capture to its record in one call."""
 import contextlib
+import errno
 import os
 from collections.abc import Iterable, Iterator, Mapping, Sequence
 from typing import Any, Optional, Union
 
 from .archive import Archive, expect_file, open_archive
 from .errors import NoArchive, expect_type
+from .faults import cannot_open
 from .fitting import fitting_record, fitting_stream
 from .index import Index
 from .program import Path, find_program, operands
@@ -51,6 +53,9 @@ class Collection:
         self._archives: Union[list[str], Mapping[str, Path]] = archives if isinstance(archives, Mapping) else operands(archives)
         if not self._archives:
             raise ValueError("no folder is given")
+        for folder in () if isinstance(self._archives, Mapping) else self._archives:
+            if os.path.isfile(folder):
+                raise cannot_open(folder, errno.ENOTDIR)
         self._program = find_program(program)
         self._known: dict[str, Archive] = {}
 

@@ -1,7 +1,6 @@
 """What the commands of this package share: their arguments, output and messages, and how a signal ends them."""
 import argparse
 import contextlib
-import errno
 import io
 import itertools
 import os
@@ -278,16 +277,7 @@ def line_of(fault: Fault, advice: str = "") -> str:
     what = "cannot open" if is_unopened else fault.name + place
     reason = f" ({fault.reason})" if fault.reason else ""
     why = advice or fault.advice
-    if isinstance(fault, CannotOpen) and fault.file is not None and fault.system_error == errno.ENOENT:
-        why = why or advice_on_name(fault.file)
     return f"{file}{what}{reason}" + (f"{';' if is_unopened else ':'} {why}" if why else "")
-
-
-def advice_on_name(name: str) -> str:
-    """Returns what the name is of a file that isn't there, if it looks like a URL or a pattern."""
-    if "://" in name:
-        return "it is a URL, and only files are read: fetch it first"
-    return "no file has a name of this pattern" if any(each in name for each in "*?[") else ""
 
 
 def failure(name: str, error: Error) -> int:

@@ -121,9 +121,17 @@ def cannot_open(path: str, error: Optional[int]) -> CannotOpen:
     fault = kind("CannotOpen", path)
     if error is not None:
         fault.reason, fault.system_error = os.strerror(error), error
+        fault.advice = advice_on_name(path) if error == errno.ENOENT else ""
         if isinstance(fault, OSError):
             fault.errno, fault.strerror, fault.filename = error, fault.reason, path
     return fault
+
+
+def advice_on_name(path: str) -> str:
+    """Returns what the name is of a file that isn't there, if it looks like a URL or a pattern."""
+    if "://" in path:
+        return "it is a URL, and only files are read: fetch it first"
+    return "no file has a name of this pattern" if any(each in path for each in "*?[") else ""
 
 
 class Read(Fault):

@@ -343,11 +343,12 @@ class Index:
 
 def _fields_of(fields: Union[str, Sequence[str]]) -> tuple[str, ...]:
     """Returns the names of fields. A text may have several, between commas."""
-    if isinstance(fields, str):
-        return tuple(field.strip() for field in fields.split(","))
     expect_type("fields", fields, Iterable, "a text, or a list of texts")
-    for field in (names := tuple(fields)):
+    names = tuple(map(str.strip, fields.split(","))) if isinstance(fields, str) else tuple(fields)
+    for field in names:
         expect_type("a field", field, str, "a text")
+    if not names or not set(names) <= set(FIELDS):
+        raise refused("BadField", "fields")
     return names
 
 

@@ -41,7 +41,7 @@ class BadStamp(Refused):
 class BadFilter(Refused):
     """A condition has no `:`, or is on an unknown field."""
 
-    advice = f"it is FIELD:TEXT, where FIELD is one of {', '.join(FIELDS)}"
+    advice = f"it is FIELD:TEXT or !FIELD:TEXT, compared as a whole, where FIELD is one of {', '.join(FIELDS)}"
 
 
 class NotLiteral(Refused):

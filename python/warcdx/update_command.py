@@ -44,8 +44,9 @@ from collections import Counter
 from collections.abc import Sequence
 from typing import BinaryIO, Optional
 
-from .command import FAILED, Parser, advice_on_name, failure, name_on_disk, number_from, printable, report, run
+from .command import FAILED, Parser, failure, name_on_disk, number_from, printable, report, run
 from .errors import Error
+from .faults import advice_on_name
 from .files import is_in
 from .outputs import expect_folder
 from .program import PACKED, find_packed_program
