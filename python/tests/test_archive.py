@@ -8,6 +8,7 @@ import signal
 import subprocess
 import unittest
 import zlib
+from collections.abc import Callable, Iterator
 from unittest import mock
 
 from warcdx import Archive, Listed, ProgramEnded, Record, Unreadable, Verified, faults, open_archive, payload
@@ -174,6 +175,13 @@ class Records(Case):
         with self.assertRaises(ValueError):  # its beginning was read
             list(stream.block())
         self.assertEqual(b"body", b"".join(stream.payload()))
+        with Archive(SAMPLES / "wget.warc", program=PROGRAM).stream(11387) as stream:
+            pass
+        for call in (stream.payload, stream.stored_payload, stream.block, stream.whole):
+            self.assertIn("within its `with`", str(self.raises(ValueError, list, self.raises_late(call))))
+
+    def raises_late(self, call: Callable[[], Iterator[bytes]]) -> Iterator[bytes]:
+        yield from call()
 
     def test_a_field_may_be_continued(self) -> None:
         record = Record.read(response(b"", b"body"))

@@ -167,9 +167,9 @@ class RecordStream:
         if left and is_whole:
             raise Unreadable("the archive ends in the record")
 
-    def _take(self, message: Optional[Message] = None) -> None:
-        if self._is_taken or message is None and "_message" in self.__dict__:
-            raise ValueError("a RecordStream is read once; open the record again")
+    def _take(self, has_head: bool = False) -> None:
+        if self._is_taken or self._rest.closed or not has_head and "_message" in self.__dict__:
+            raise ValueError("a RecordStream is read once, within its `with`; open the record again")
         self._is_taken = True
 
     def _pieces(self) -> Iterator[bytes]:
@@ -195,12 +195,12 @@ class RecordStream:
 
     def payload(self, limits: Limits = UNLIMITED) -> Iterator[bytes]:
         """Yields the body without its codings, as `payload` returns it. One beyond the limits is Unreadable."""
-        self._take(self._message)
+        self._take(has_head=True)
         return Again(_said_to_be_cut(self.head, self._message.payload(limits)))
 
     def stored_payload(self, limits: Limits = UNLIMITED) -> Iterator[bytes]:
         """Yields the body without its transfer codings only, such as chunks. Its content codings stay."""
-        self._take(self._message)
+        self._take(has_head=True)
         return Again(_said_to_be_cut(self.head, self._message.stored_payload(limits)))
 
     @property

@@ -23,13 +23,13 @@ class Unknown(Refused):
 class RepeatedParameter(Refused):
     """A parameter that may occur once is given twice."""
 
-    advice = "output, fl and showResumeKey are given by all calls but text and stream"
+    advice = "it stands in the query text too, or the call gives it: all but text and stream give output, fl and showResumeKey"
 
 
 class BadMatch(Refused):
     """A match type isn't one of the four."""
 
-    advice = "it is exact, prefix, host or domain"
+    advice = "match or matchType is exact, prefix, host or domain"
 
 
 class BadStamp(Refused):
@@ -41,7 +41,7 @@ class BadStamp(Refused):
 class BadFilter(Refused):
     """A condition has no `:`, or is on an unknown field."""
 
-    advice = f"it is FIELD:TEXT or !FIELD:TEXT, compared as a whole, where FIELD is one of {', '.join(FIELDS)}"
+    advice = f"it is FIELD:TEXT, or in a filter !FIELD:TEXT, without a pattern, where FIELD is one of {', '.join(FIELDS)}"
 
 
 class NotLiteral(Refused):
