@@ -88,6 +88,8 @@ class Hostile(support.Pages):
             "other-lines": ("<p>" + "<p>".join(rng.choices(words, k=6000))).encode(),
             "marks": "<p>a\u202eb</p><p>&#0;&#27;[2J\x1b\x9b</p>".encode(),
             "script": b"&lt;script&gt;alert(1)&lt;/script&gt;<p>&lt;/td&gt;",
+            "digits": b"<p>&#" + b"9" * 5000 + b";a",
+            "million": b"<p>&#" + b"9" * 1_000_000 + b";a",
         }
         archives.add("a.warc", [response(HOME + name, "2016-03-03T00:00:00Z", body) for name, body in self.bodies.items()])
 
@@ -102,6 +104,9 @@ class Hostile(support.Pages):
             self.assertIn(answer.status_code, (200, 422), name)
             self.assertTrue("side by side" in text or "They need more than 3 seconds" in text, text[:300])
             self.assertLess(time.process_time() - start, 12, name)
+
+    def test_a_character_has_a_number_of_any_length(self) -> None:
+        self.assertIn("\ufffda", text_of(self.get("compare", first=self.of("digits"), second=self.of("plain"))))
 
     def test_texts_are_escaped(self) -> None:
         for name in ("marks", "script"):

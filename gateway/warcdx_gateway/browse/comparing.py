@@ -152,6 +152,7 @@ def main() -> None:
     most = resource.getrlimit(resource.RLIMIT_AS)[1]
     memory = MEMORY if most == resource.RLIM_INFINITY else min(MEMORY, most)
     resource.setrlimit(resource.RLIMIT_AS, (memory, memory))
+    sys.set_int_max_str_digits(0)  # of the number of a character
     pages = json.loads(sys.stdin.buffer.readline())
     texts = []
     for size, is_html in zip(pages["sizes"], pages["html"]):
