@@ -1,5 +1,6 @@
 """The start page of a collection, with a summary and without one."""
 import json
+import os
 import re
 import unittest
 
@@ -68,9 +69,13 @@ class Start(support.Pages):
         for each in (hostile, {}, {"years": {}, "damaged": []}):
             self.summarize(json.dumps(each))
             self.assertNotIn("<script", self.get(""))
-        for text in ("", "[]", "{", "[" * 100_000, "7"):
+        for text in ("", "[]", "{", "[" * 100_000, "7", "9" * 5000, "\0"):
             self.summarize(text)
             self.assertIn("Hosts", self.get(""))
+        path = self.archives.folder / "index.d/current/summary.json"
+        path.unlink()
+        os.mkfifo(path)  # which nobody writes to
+        self.assertIn("Hosts", self.get(""))
 
     def test_without_a_summary_the_first_hosts_are_shown(self) -> None:
         found = self.get("")

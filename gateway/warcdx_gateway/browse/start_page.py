@@ -11,6 +11,7 @@ from werkzeug.wrappers import Response
 from warcdx.url_keys import host_of
 
 from ..collection import Collection
+from ..generation import open_regular
 from ..history import quoted
 from . import calendars, dates
 from .counting import Counts
@@ -43,9 +44,9 @@ def summary_of(collection: Collection) -> Optional[dict[str, Any]]:
     first = collection.settings.indexes[0]
     path = (first if first.is_dir() else first.with_name(f"{first.name}.d")) / SUMMARY
     try:
-        if path.stat().st_size > MOST_SUMMARY:
-            return None
-        found = json.loads(path.read_bytes())
+        with open(open_regular(path), "rb") as file:
+            text = file.read(MOST_SUMMARY + 1)
+        found = json.loads(text) if len(text) <= MOST_SUMMARY else None
     except (OSError, ValueError, RecursionError):
         return None
     return found if isinstance(found, dict) else None
