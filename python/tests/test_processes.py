@@ -40,34 +40,6 @@ assert index.count() == 3
 index.close()
 """
 
-# Interrupts calls that start programs, also of an Index that isn't closed. Prints the descriptors and the processes that are left then.
-LEFT = """
-import gc, os, random, signal, sys
-sys.path.insert(0, sys.argv[1])
-import warcdx
-from tests.support import children_of
-
-signal.signal(signal.SIGINT, signal.default_int_handler)
-signal.signal(signal.SIGALRM, lambda number, frame: signal.raise_signal(signal.SIGINT))
-choice, archive = random.Random(1), warcdx.Archive(sys.argv[2], program=sys.argv[4])
-calls = (lambda: archive.verdict(11387), lambda: warcdx.Index(sys.argv[3], program=sys.argv[4]).count())
-sys.unraisablehook = lambda arguments: None
-for call in calls:
-    call()
-before = len(os.listdir("/proc/self/fd"))
-for call in calls * 80:
-    try:
-        signal.setitimer(signal.ITIMER_REAL, choice.uniform(0.0002, 0.006), 0.05)
-        while True:
-            call()
-    except KeyboardInterrupt:
-        pass
-    finally:
-        signal.setitimer(signal.ITIMER_REAL, 0)
-call(), gc.collect()
-print(len(os.listdir("/proc/self/fd")) - before, len(children_of(os.getpid())))
-"""
-
 
 class Programs(Case):
     def test_a_missing_program_is_named(self) -> None:
@@ -177,13 +149,6 @@ class Programs(Case):
     def test_an_index_answers_however_often_it_was_interrupted(self) -> None:
         words = (sys.executable, "-c", INTERRUPTED, ROOT, self.put(lines(3)), os.path.abspath(PROGRAM))
         self.assertEqual(0, subprocess.run(words, timeout=WAIT).returncode)
-
-    def test_interrupts_leave_hardly_anything(self) -> None:
-        """Only one that comes within a step of Python itself, and takes a new descriptor from it, leaves that."""
-        words = (sys.executable, "-c", LEFT, ROOT, SAMPLES / "wget.warc", self.put(lines(3)), os.path.abspath(PROGRAM))
-        descriptors, processes = map(int, subprocess.run(words, timeout=WAIT, stdout=subprocess.PIPE, check=True).stdout.split())
-        self.assertLess(descriptors, 8)
-        self.assertLess(processes, 4)
 
     def test_standard_streams_may_be_closed(self) -> None:
         """As in a service: the files of an index have the numbers of these then."""

@@ -172,9 +172,21 @@ def start(
     When this process ends, however it does, the program finds its input at the end or its output closed, and ends
     too. `before` is called in the new process. It makes a start slow if this process has much memory.
     """
+    options = {"stdout": subprocess.PIPE, "stderr": said, "preexec_fn": before, "pass_fds": descriptors}
     try:
         with uninterrupted():  # else Popen forgets the process, and nobody takes its status
-            return Process(command, stdin=stdin, stdout=subprocess.PIPE, stderr=said, preexec_fn=before, pass_fds=descriptors)
+            if stdin != subprocess.PIPE:
+                return Process(command, stdin=stdin, **options)
+            reading, writing = os.pipe()  # Popen would leave its own open if it can't make another one
+            with open(reading, "rb"):
+                pipe = open(writing, "wb")
+                try:
+                    process = Process(command, stdin=reading, **options)
+                except BaseException:
+                    pipe.close()
+                    raise
+                process.stdin = pipe
+                return process
     except OSError as error:
         raise _not_started(command[0], error) from error
     except subprocess.SubprocessError as error:  # the new process had no memory to do what it does first
