@@ -56,6 +56,18 @@ class Ended(Case):
             self.assertEqual([b"gone\n"], list(body))
             self.assertEqual([], list(body))
 
+    def test_records_go_on_behind_one_that_can_not_be_read(self) -> None:
+        text = b"".join(map(resource, range(3)))
+        (self.folder / "a.warc").write_bytes(text)
+        with open(self.folder / "index", "wb") as output:
+            Archive(self.folder / "a.warc", program=PROGRAM).index(output)
+        (self.folder / "a.warc").write_bytes(text.replace(b"example.com/1", b"example.org/1"))
+        with Collection(self.folder / "index", self.folder, program=PROGRAM) as collection:
+            records = collection.records()
+            next(records)
+            self.raises(faults.OtherRecord, next, records)
+            self.assertEqual(["http://example.com/2"], [record.url for record in records])
+
     def test_an_interrupted_iterator_is_not_at_its_end(self) -> None:
         index = self.open(self.put(lines(3)), seconds=WAIT)
 
