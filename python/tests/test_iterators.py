@@ -144,6 +144,21 @@ class Closed(Case):
         self.raises(ValueError, next, stream)
         self.assertEqual("the Index is closed", str(self.raises(ValueError, list, captures)))
 
+    def test_a_query_does_not_wait_for_a_half_read_stream_of_its_thread(self) -> None:
+        index = self.open(self.put(lines(LONG)), processes=2)
+        streams = [index.stream(ALL), index.stream(ALL)]
+        next(streams[0])
+        self.assertEqual(LONG, index.count())
+        next(streams[1])
+        for call in (index.count, lambda: next(index.stream(ALL)), lambda: next(index.captures())):
+            self.assertIn("is half read", str(self.raises(ValueError, call)))
+        other, found = index.captures(limit=1), list[Any]()
+        waiting = threading.Thread(target=lambda: found.extend(other))
+        waiting.start()
+        list(streams.pop())
+        waiting.join(WAIT)
+        self.assertEqual((LONG, 1), (index.count(), len(found)))
+
     def test_a_stream_that_was_read_or_closed_is_no_hindrance(self) -> None:
         index = Index(self.put(lines(LONG)), program=PROGRAM)
         whole, left = index.stream(ALL), index.stream(ALL)

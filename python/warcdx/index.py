@@ -2,6 +2,7 @@
 import contextlib
 import itertools
 import queue
+import threading
 import weakref
 from collections.abc import Callable, Generator, Iterable, Iterator, Sequence
 from typing import Any, NoReturn, Optional, Union
@@ -91,7 +92,7 @@ class Index:
         self._turns: queue.SimpleQueue[bool] = queue.SimpleQueue()
         for _ in range(processes):
             self._turns.put(True)
-        self._streams: weakref.WeakSet[Again[bytes]] = weakref.WeakSet()
+        self._streams: weakref.WeakKeyDictionary[Again[bytes], int] = weakref.WeakKeyDictionary()  # with the threads that have begun them
 
     def captures(
         self,
@@ -235,7 +236,7 @@ class Index:
         closed. `seconds` is the time for each piece, and `most` bounds none.
         """
         pieces = Again(self._stream(query))
-        self._streams.add(pieces)
+        self._streams[pieces] = threading.get_ident()
         return pieces
 
     def _stream(self, query: str) -> Generator[bytes, None, None]:
@@ -317,6 +318,8 @@ class Index:
     def _turn(self, query: Query) -> Iterator[Serve]:
         """Yields a process that was idle, or a new one, to answer a query. A refusal names its parameter."""
         turns, serve = list[bool](), None
+        if self._has_only_half_read_streams():
+            raise ValueError("a stream of this thread is half read: read it to its end, close it, or give the Index more processes")
         try:
             # One step of the interpreter, so that no interrupt comes when a turn is taken, and before it is noted.
             turns.extend(itertools.islice(iter(self._turns.get, None), 1))
@@ -333,6 +336,13 @@ class Index:
             finally:
                 for turn in turns:
                     self._turns.put(turn)
+
+    def _has_only_half_read_streams(self) -> bool:
+        """Returns whether streams of this thread have all processes, so that it would wait for itself."""
+        with contextlib.suppress(RuntimeError):  # another thread begins one meanwhile
+            threads = [thread for stream, thread in self._streams.items() if stream.is_half_read()]
+            return threads.count(threading.get_ident()) >= self._processes
+        return False
 
     def _last_used(self) -> Serve:
         try:
