@@ -174,19 +174,18 @@ def start(
     """
     options = {"stdout": subprocess.PIPE, "stderr": said, "preexec_fn": before, "pass_fds": descriptors}
     try:
-        with uninterrupted():  # else Popen forgets the process, and nobody takes its status
-            if stdin != subprocess.PIPE:
-                return Process(command, stdin=stdin, **options)
-            reading, writing = os.pipe()  # Popen would leave its own open if it can't make another one
-            with open(reading, "rb"):
-                pipe = open(writing, "wb")
-                try:
-                    process = Process(command, stdin=reading, **options)
-                except BaseException:
-                    pipe.close()
-                    raise
-                process.stdin = pipe
-                return process
+        if stdin != subprocess.PIPE:
+            return Process(command, stdin=stdin, **options)
+        reading, writing = os.pipe()  # Popen would leave its own open if it can't make another one
+        with open(reading, "rb"):
+            pipe = open(writing, "wb")
+            try:
+                process = Process(command, stdin=reading, **options)
+            except BaseException:
+                pipe.close()
+                raise
+            process.stdin = pipe
+            return process
     except OSError as error:
         raise _not_started(command[0], error) from error
     except subprocess.SubprocessError as error:  # the new process had no memory to do what it does first
@@ -198,14 +197,17 @@ def started(
     command: tuple[str, ...], said: IO[bytes], stdin: Optional[int], before: Optional[Callable[[], None]] = None
 ) -> Iterator[Process]:
     """Starts the program as `start` does, and ends it at the end of the block, also if a signal ends the command."""
-    process = start(command, said, stdin, before)
+    process: Optional[Process] = None
     try:
+        with uninterrupted():  # else Popen may forget the process
+            process = start(command, said, stdin, before)
         yield process
     finally:
-        with blocked():
-            process.kill()
-            process.wait()
-            close(process.stdin, process.stdout)
+        if process is not None:
+            with blocked():
+                process.kill()
+                process.wait()
+                close(process.stdin, process.stdout)
 
 
 def memory_file() -> IO[bytes]:

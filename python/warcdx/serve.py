@@ -11,6 +11,7 @@ import weakref
 from collections.abc import Callable, Generator
 from typing import IO, NamedTuple, Optional
 
+from .ending import uninterrupted
 from .errors import NO_STATUS, Error, Fault, ProgramEnded, ProgramError, Refused, ReplyTooLate, ReplyTooLong
 from .program import Process, close, end_of, memory_file, start
 from .reported import fault, refused
@@ -196,7 +197,8 @@ class Serve:
         said = memory_file()
         process: Optional[Process] = None
         try:
-            process = start(self._command, said, subprocess.PIPE, descriptors=self._files.descriptors)
+            with uninterrupted():  # else Popen may forget the process
+                process = start(self._command, said, subprocess.PIPE, descriptors=self._files.descriptors)
             assert process.stdin is not None
             os.set_blocking(process.stdin.fileno(), False)
             self._said = said
