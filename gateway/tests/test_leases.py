@@ -345,6 +345,12 @@ class Served(Case):
         self.assertEqual(SMALL_BODY, server.ask(SMALL).body)
         self.assertEqual("", server.said.read_text())
 
+    def test_a_program_that_is_slow_to_start_is_waited_for(self) -> None:
+        """Also for a client that has the answer already. Of one query, the second request would wait at once."""
+        server = self.start(head="workers = 3\nwide = 2\n", program=self.program('[ "$1" != serve ] || sleep 1'))
+        tag = server.ask(SMALL).fields["etag"]
+        self.assertEqual([304] * 6, [server.ask(f"{SMALL}&limit={number}", If_None_Match=tag).status for number in range(1, 7)])
+
     def test_a_disk_that_is_full_later_ends_nothing(self) -> None:
         """All files are made at the start, those of later workers too."""
         runtime = self.folder / "runtime"

@@ -150,9 +150,8 @@ class Gateway:
         plan = plan_of(text, form, self.settings.limits, not collection.rules)
         source, headers = Source(collection), collection.validators()
         if is_unchanged(request, headers):
-            source.check()  # a query that is refused has no 304
-            collection.index.text(plan.first_query)
-            collection.expect_unchanged()
+            for _ in source.pieces(plan.first_query):  # a query that is refused has no 304
+                pass
             return Response(status=304, headers=headers)
 
         def pieces() -> Generator[bytes, None, None]:
