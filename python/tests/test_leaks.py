@@ -56,6 +56,10 @@ class Left(Case):
         path, usual = self.put(lines(3)), resource.getrlimit(resource.RLIMIT_NOFILE)
         self.addCleanup(resource.setrlimit, resource.RLIMIT_NOFILE, usual)
         archive = Archive(SAMPLES / "wget.warc", program=PROGRAM)
+        highest = max(map(int, os.listdir("/proc/self/fd")))
+        while (below := os.open(os.devnull, os.O_RDONLY)) < highest:  # so that the limit is the number of open files
+            self.addCleanup(os.close, below)
+        os.close(below)
         for call in (lambda: Index(path, program=PROGRAM).count(), lambda: archive.verdict(11387)):
             call()
             before, outcomes = len(os.listdir("/proc/self/fd")), list[str]()

@@ -211,9 +211,15 @@ def started(
 
 
 def memory_file() -> IO[bytes]:
-    """Makes a file in memory, for what a program says (Linux). A disk that is full would not take why it failed."""
-    with uninterrupted():
-        return open(os.memfd_create("warcdx"), "w+b")
+    """Makes a file in memory, for what a program says (Linux). A disk that is full would not take why it failed.
+
+    Raises as the start of a program does.
+    """
+    try:
+        with uninterrupted():
+            return open(os.memfd_create("warcdx"), "w+b")
+    except OSError as error:
+        raise _not_started("memfd_create", error) from error
 
 
 def close(*files: Optional[IO[bytes]]) -> None:
