@@ -103,6 +103,20 @@ class Served(Case):
             self.assertEqual(200, server.ask("/cdx?url=example.com").status)
             self.assertEqual((0, ""), (server.end(), server.said.read_text()))
 
+    def test_a_signal_that_ends_it_before_it_answers_leaves_nothing(self) -> None:
+        self.put(SAMPLE)
+        settings = self.put(f'port = 0\nprogram = "{self.program(SLOW)}"\nworkers = 2\n{GOOD}', "settings.toml")
+        (self.folder / "runtime").mkdir()
+        for number in (signal.SIGTERM, signal.SIGINT, signal.SIGQUIT):
+            (self.folder / "begun").unlink(missing_ok=True)
+            with mock.patch.dict(os.environ, RUNTIME_DIRECTORY=str(self.folder / "runtime")):
+                process = self.run_later(str(settings))
+            self.wait_for((self.folder / "begun").exists, "no check")
+            process.send_signal(number)
+            self.assertEqual("", process.communicate()[0])
+            self.assertEqual((-number, []), (process.returncode, os.listdir(self.folder / "runtime")))
+        self.assertEqual("", (self.folder / "said").read_text())
+
     def test_variables_of_another_gunicorn_are_not_its_own(self) -> None:
         self.put(SAMPLE)
         with mock.patch.dict(os.environ, dict.fromkeys(("GUNICORN_PID", "GUNICORN_FD", "LISTEN_FDS", "LISTEN_PID"), "x")):

@@ -217,6 +217,7 @@ def rules_file(settings: Settings, before: Optional[RulesFile] = None) -> RulesF
 def run(settings: Settings, read: Callable[[], Settings]) -> None:
     """Answers requests until a signal. Raises Error or OSError if it can't start."""
     signal.pthread_sigmask(signal.SIG_BLOCK, LATER)
+    signal.signal(signal.SIGQUIT, signal.getsignal(signal.SIGTERM))  # so that nothing is left
     for name in OTHERS:
         os.environ.pop(name, None)
     allow_files(sum(each.most_files for each in settings.collections))
