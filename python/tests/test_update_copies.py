@@ -1,4 +1,4 @@
-"""Copies of an index, whose files have other inodes and times: a restored backup, or what `cp -r`, `tar` and `rsync` make."""
+"""Copies of an index, whose files have other inodes and times: a restored backup, or what `cp -r`, `tar` and `rsync` make; other updates."""
 import contextlib
 import errno
 import os
@@ -112,6 +112,17 @@ class Copies(Case):
         for words in ((), ("--dry-run",)):
             self.assertEqual("give another INDEX", self.update("all", *words))
             self.assertEqual((3, changed), (self.status, file.read_bytes()))
+
+
+class SmallUpdate(Case):
+    def test_one_new_archive_needs_no_module_that_takes_long_to_load(self) -> None:
+        (self.folder / "archives").mkdir()
+        (self.folder / "archives/a.warc").write_bytes(resource(1))
+        command = (COMMAND[0], "-X", "importtime", *COMMAND[1:], "--quiet", "archives", "all.d")
+        said = subprocess.run(command, cwd=self.folder, stderr=subprocess.PIPE, text=True, check=True).stderr
+        loaded = {line.rpartition("|")[2].strip() for line in said.splitlines()}
+        self.assertIn("sqlite3", loaded)
+        self.assertEqual(set(), loaded & {"concurrent.futures", "difflib", "logging"})
 
 
 class FirstState(Case):

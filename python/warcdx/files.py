@@ -50,7 +50,7 @@ def move(path: Path, new_path: Path) -> None:
 
 
 def _copy(path: Path, new_path: Path) -> None:
-    import shutil  # which takes long to load, and is seldom needed
+    import shutil  # which is seldom needed
 
     with open(path, "rb") as source, open(new_path, "xb") as file, _removed_if_failed(new_path):
         shutil.copyfileobj(source, file)
