@@ -335,6 +335,10 @@ class Programs(Case):
         plain, beside = self.program("one/warcdx", "warcdx 0.1.0: x"), self.program("one/warcdx-gz", "warcdx-gz 0.1.0: x")
         self.assertEqual(str(beside), find_packed_program(str(plain)))
         self.assertEqual(str(plain), find_program(str(plain)))
+        unused = self.program("two/warcdx", "x; touch $0.run")
+        beside = self.program("two/warcdx-gz", "warcdx-gz 0.1.0: x")
+        self.assertEqual(str(beside), find_packed_program(str(unused)))
+        self.assertEqual([], list(self.folder.rglob("*.run")))
 
     def test_it_may_be_given_itself_by_any_name(self) -> None:
         self.program("one/warcdx-gz", "warcdx-gz 0.1.0: x")

@@ -35,14 +35,18 @@ def find_program(program: Path) -> str:
     A name without `/` is looked up on the PATH, then in the folder of Python, where a wheel has it, and then in bin/ of
     the release that has this package. Raises ProgramMissing or ProgramTooOld.
     """
+    path = _located(program)
+    check_version(path)
+    return path
+
+
+def _located(program: Path) -> str:
     expect_type("program", program, (str, os.PathLike), "a text or a Path")
     name = os.fspath(program)
     path = executable(name, (os.path.dirname(sys.executable), *_bin_of_release()))
     if path is None:
         raise ProgramMissing(f"{name}: no such program" + ("" if "/" in name else " on the PATH"))
-    path = os.path.abspath(path)
-    check_version(path)
-    return path
+    return os.path.abspath(path)
 
 
 def executable(name: str, folders: Iterable[str] = ()) -> Optional[str]:
@@ -63,7 +67,11 @@ def find_packed_program(program: Path) -> str:
 
     If it is that of warcdx, warcdx-gz is in the same folder, or else where `find_program` finds it.
     """
-    return find_program(packed_program_of(find_program(program)))
+    path = _located(program)
+    beside = os.path.join(os.path.dirname(path), PACKED)
+    if os.path.basename(path) == "warcdx" and os.access(beside, os.X_OK):  # so what isn't used needn't be run
+        return find_program(beside)
+    return find_program(packed_program_of(find_program(path)))
 
 
 def packed_program_of(path: str) -> str:
