@@ -371,6 +371,10 @@ class ReaderTest(unittest.TestCase):
         (state / "a").write_bytes(lines_of(range(1)))
         with Index([folder, state / "a"], program=PROGRAM) as index:
             self.assertEqual([capture.filename for capture in index], ["a.warc"])
+        (state / "manifest.json").unlink()
+        os.mkfifo(state / "manifest.json")  # which nobody writes, so that to open it would wait
+        with self.assertRaises(faults.CannotOpen):
+            Index(folder, program=PROGRAM)
 
 
 if __name__ == "__main__":

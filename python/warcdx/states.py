@@ -11,7 +11,7 @@ from collections.abc import Mapping, Sequence
 from typing import Any, NamedTuple, Optional
 
 from .faults import cannot_open
-from .files import Path, is_regular, remove, write_new, write_to_disk
+from .files import Path, is_regular, open_at_once, remove, write_new, write_to_disk
 
 CURRENT = "current"  # leads to the folder of the state that is the index now
 FOLDERS = STATES, RUNS = "states", "runs"
@@ -41,7 +41,7 @@ def runs_of(folder: Path) -> list[str]:
     for _ in range(_TRIES):
         try:
             state = os.path.realpath(current)
-            with open(os.path.join(state, MANIFEST), "rb") as file:
+            with open_at_once(os.path.join(state, MANIFEST)) as file:
                 values = json.load(file)
             paths = [os.path.realpath(os.path.join(state, run["file"])) for run in values["runs"]]
             if values["form"] == FORM and paths and all(map(os.stat, paths)):
@@ -113,9 +113,9 @@ def is_whole(folder: str, number: int, runs: Sequence[Listed]) -> bool:
     """Returns whether the folder of a state has its links and its manifest, and a summary."""
     state = f"{folder}/{STATES}/{number}"
     try:
-        with open(f"{state}/{MANIFEST}", "rb") as file:
+        with open_at_once(f"{state}/{MANIFEST}") as file:
             manifest = json.load(file)
-    except (OSError, RecursionError, ValueError):
+    except (OSError, RecursionError, TypeError, ValueError):
         return False
     return manifest == _manifest_of(number, runs) and is_regular(f"{state}/{SUMMARY}") and all(_has_link(state, run.file) for run in runs)
 
