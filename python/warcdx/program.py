@@ -227,7 +227,7 @@ def memory_file() -> IO[bytes]:
         with uninterrupted():
             return open(os.memfd_create("warcdx"), "w+b")
     except OSError as error:
-        raise _not_started("memfd_create", error) from error
+        raise _not_started("a file in memory", error) from error
 
 
 def close(*files: Optional[IO[bytes]]) -> None:
