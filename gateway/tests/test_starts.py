@@ -119,6 +119,8 @@ class Starts(Case):
             (f"timeout = 30\n{good}", "'timeout' has to be more than limits.query"),
             (f'address = "0.0.0.0"\n{good}', "'hosts' has to name the hosts of requests, as --host NAME does"),
             (f'hosts = "a"\n{good}', "'hosts' has to be a list of texts"),
+            (f'hosts = ["a", "http://a.example/"]\n{good}', "'hosts' has names without a scheme, a port and a path"),
+            (f'hosts = ["a:80"]\n{good}', "'hosts' has names without a scheme, a port and a path"),
             (f"{good}[limits]\nstreams = 1\n", "unknown setting 'limits.streams'"),
             (f"{good}[limits]\nlargest = 0\n", "'limits.largest' has to be a number from 1"),
             (f"{good}[limits]\nlargest = 5\n", "'limits.held' has to be at most limits.largest"),

@@ -18,6 +18,7 @@ from warcdx.states import MOST_RUNS, files_of
 from .generation import open_regular
 
 NAME = re.compile(r"[A-Za-z0-9][A-Za-z0-9._-]{0,63}")
+HOST = re.compile(r"[^\s/:]+|[0-9a-f.]*:[0-9a-f.]*:[0-9a-f:.]*")  # a name, or an address of IPv6
 ADDRESS = re.compile(r"[^\s:]+:[0-9]{1,5}|\[[0-9A-Fa-f:.]+\]:[0-9]{1,5}")
 RESERVED = ("browse", "cdx", "collinfo.json", "favicon.ico", "health", "metrics", "robots.txt", "wayback", "web")  # of other paths
 ENDS = ("-cdx", "-index")  # of paths of a collection, after its name
@@ -200,6 +201,8 @@ def checked(settings: Settings) -> Settings:
     wide = settings.wide or max(min(workers // 2, processors - 1), 1)
     hosts = tuple(host.lower().strip("[]") for host in settings.hosts)  # as those of requests are compared
     settings = dataclasses.replace(settings, workers=workers, wide=wide, hosts=hosts)
+    is_host = all(map(HOST.fullmatch, hosts))
+    require(is_host, "hosts", "has names without a scheme, a port and a path, such as example.com")
     require(0 <= settings.port <= 65_535, "port", "has to be from 0 to 65535")
     is_port = all(port <= 65_535 for _, port in settings.metrics_address)
     require(is_port, "metrics", "has a port that has to be from 0 to 65535")
