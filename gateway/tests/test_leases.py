@@ -295,11 +295,11 @@ class Served(Case):
         server = self.start(head="workers = 4\nwide = 2\n", wait=60)
         with attacks.taking_nothing(server, 8, "/cdx?url=example.com/", "192.0.2.1"):
             time.sleep(1)
-            with connected(server) as client:
-                path = "/cdx?url=example.com/&collapse=digest&fl=offset&limit=20000"
-                found = client.ask(path, X_Forwarded_For="192.0.2.2")
-                if found.status == 503:  # on a busy machine it waits too long at first
-                    found = client.ask(path, X_Forwarded_For="192.0.2.2")
+            for _ in range(2):  # on a busy machine it waits too long at first
+                with connected(server) as client:
+                    found = client.ask("/cdx?url=example.com/&collapse=digest&fl=offset&limit=20000", X_Forwarded_For="192.0.2.2")
+                if found.status != 503:
+                    break
             self.assertEqual((200, 20_000), (found.status, found.body.count(b"\n")))
 
     def test_cheap_requests_are_not_refused(self) -> None:
