@@ -30,6 +30,9 @@ from device_runs import ASKED, LONG, SECONDS, Place, ended, expect, of_input, po
 from preloaded_runs import ALL
 from program import without_advice
 
+READ_IN_ORDER = ("list", "verify", "index", "get", "scan")  # the commands that read archives
+STARTED = 1 << 16  # bytes that a process has read at most before it reads a file
+
 
 def expect_failed_output(place: Place, words: Sequence[str], written: bytes, status: int, error: bytes, usual: bytes) -> None:
     """The output failed, and what it took is a prefix of the usual one."""
@@ -345,25 +348,35 @@ def run_and_cut(place: Place, words: Sequence[str]) -> Optional[tuple[int, bytes
         threading.Thread(target=lambda: output.append(process.stdout.read())),
         threading.Thread(target=lambda: error.append(process.stderr.read())),
     ]
-    for reader in readers:
-        reader.start()
     write_all(process.stdin, ASKED if words[0] == "serve" else b"")
     path = place.folder / words[-1]
-    while process.poll() is None and not position(process.pid, path):
+    while process.poll() is None and not read_of(process.pid, words, path):
         pass
-    is_cut = cut_to_half(process, path)
+    is_cut = cut_to_half(process, words, path)
+    for reader in readers:  # not before, so that a run with a long output waits for them
+        reader.start()
     for reader in readers:
         reader.join()
     status = process.wait(SECONDS)
     return (status, output[0], without_advice(error[0])) if is_cut else None
 
 
-def cut_to_half(process: "subprocess.Popen[bytes]", path: pathlib.Path) -> bool:
+def read_of(process: int, words: Sequence[str], path: pathlib.Path) -> int:
+    """Returns how far a file was read: the position in it or, as an index is read at offsets, all bytes that the process has read."""
+    if words[0] in READ_IN_ORDER:
+        return position(process, path)
+    with contextlib.suppress(OSError):
+        count = int(pathlib.Path(f"/proc/{process}/io").read_text().split()[1])
+        return count if count > STARTED else 0
+    return 0
+
+
+def cut_to_half(process: "subprocess.Popen[bytes]", words: Sequence[str], path: pathlib.Path) -> bool:
     """Stops the program, cuts the file near its middle or before unless it has been read, and lets the program go on."""
     process.send_signal(signal.SIGSTOP)
     while process.poll() is None and state(process) != "T":
         time.sleep(0.001)
-    at, size = position(process.pid, path), path.stat().st_size
+    at, size = read_of(process.pid, words, path), path.stat().st_size
     is_read = process.returncode is not None or at >= size
     if not is_read:
         os.truncate(path, min(at, size // 2) + 50)
