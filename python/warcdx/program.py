@@ -69,7 +69,7 @@ def find_packed_program(program: Path) -> str:
     """
     path = _located(program)
     beside = os.path.join(os.path.dirname(path), PACKED)
-    if os.path.basename(path) == "warcdx" and os.access(beside, os.X_OK):  # so what isn't used needn't be run
+    if os.path.basename(path) == "warcdx" and executable(beside):  # so what isn't used needn't be run
         return find_program(beside)
     return find_program(packed_program_of(find_program(path)))
 
