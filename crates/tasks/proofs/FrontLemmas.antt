@@ -1,9 +1,9 @@
 -- However a task ends that ends at a fault, it has written a front of what one that is done writes.
 use Rattle.std.proofs.Common.{arith, ◌≡◌, ◌⊎◌, ℕ, true, List, ◌++◌, Option, None, Some, Result, Ok, Err, append_assoc, map}
-use Rattle.std.proofs.Common.{◌∙◌, ap, drop, length, refl, subst, sym, inl, inr, append-nil, []}
-use Rattle.std.specs.Prelude.{IfErr, flat_map}
+use Rattle.std.proofs.Common.{◌∙◌, ap, drop, refl, subst, sym, inl, inr, append-nil, []}
+use Rattle.std.specs.Prelude.{IfErr}
 use Rattle.std.specs.List.{AllZip}
-use Rattle.std.specs.Io.KnownBytes.{Appends, Keeps}
+use Rattle.std.specs.Io.KnownBytes.{Keeps}
 use Rattle.cdxj_core.specs.declared.limit.TheConstants.{LINE_LIMIT}
 use Rattle.cdxj_core.specs.{Indexes.IsIndex, Members.Member}
 use Rattle.devices.proofs.DeviceLemmas.{grows_by, grows_not, grows_part}
