@@ -3,7 +3,7 @@ use Rattle.std.proofs.Common.{arith, ◌≡◌, ◌⊎◌, ℕ, true, List, ◌+
 use Rattle.std.proofs.Common.{◌∙◌, ap, drop, refl, subst, sym, inl, inr, append-nil, []}
 use Rattle.std.specs.Prelude.{IfErr}
 use Rattle.std.specs.List.{AllZip}
-use Rattle.std.specs.Io.KnownBytes.{Keeps}
+use Rattle.std.specs.Io.KnownBytes.{Appends, Keeps}
 use Rattle.cdxj_core.specs.declared.limit.TheConstants.{LINE_LIMIT}
 use Rattle.cdxj_core.specs.{Indexes.IsIndex, Members.Member}
 use Rattle.devices.proofs.DeviceLemmas.{grows_by, grows_not, grows_part}
@@ -15,6 +15,7 @@ use Rattle.warc_core.specs.declared.next.TheConstants.{HEAD_LIMIT}
 use Rattle.index_core.specs.{FetchingIn.FetchesIn, FetchingIn.IsUnwrittenBy, OneText.HasFront, OneText.IsFailure}
 use Rattle.index_core.specs.OneText.{FetchesAtFront, FetchesAtOneText, FetchesFront, FetchesMemberFront}
 use Rattle.index_core.specs.OneText.{FetchesMemberOneText, FetchesOneText, IsOfArchive}
+use Rattle.index_core.specs.OneRecord.{IsOneRecord, WritesOneRecord, WritesPart}
 use Rattle.index_core.specs.declared.fault.IndexFault.{IndexFault}
 use Rattle.merge_core.specs.{Collections.Known, Collections.collection, SourceLines.WritesLines}
 use Rattle.query_core.specs.Answering.{WritesAnswer}
@@ -200,6 +201,35 @@ module _ (laws : CallsHaveFronts) (offset : ℕ) (archive before : List ℕ) (n 
     record_leaves packing len (Ok m) p q unwritten = same_part before whole part (record_grew packing len p)
         (fetches_one laws.fetch laws.fetch_at laws.fetch_member packing len offset archive before n m whole part p q).0
     record_leaves packing len (Err fault) p q unwritten = failed_leaves packing len fault p q unwritten
+
+-- ---- one record, over any bytes
+
+module _ (before : List ℕ) (after : Option (List ℕ)) where
+  record_whole : (answer : Result ℕ IndexFault) → outcomes.Done ≡ outcome_of answer
+      → WritesOneRecord HEAD_LIMIT answer (Some before) after
+      → (text : List ℕ) × IsOneRecord HEAD_LIMIT text × Appends (Some before) after text
+  record_whole (Ok n) e (text, one, size, wrote) = (text, one, wrote)
+  record_whole (Err fault) e w = absurd (cc)
+
+  record_part : (answer : Result ℕ IndexFault) (outcome : Outcome) → outcome ≡ outcome_of answer
+      → WritesOneRecord HEAD_LIMIT answer (Some before) after → (outcome ≡ outcomes.Done → ⊥)
+      → WritesPart HEAD_LIMIT (Some before) after
+  record_part (Ok n) outcome e w other = absurd (other e)
+  record_part (Err fault) outcome e w other = w
+
+  module _ (files : Openings) (len : Option ℕ) (offset : ℕ) (name : List ℕ) (unchanged : Type 0) where
+    pub got_whole : Performs files (Some before) after unchanged outcomes.Done (ToGet len offset name)
+        → (text : List ℕ) × IsOneRecord HEAD_LIMIT text × Appends (Some before) after text
+    unfolding Performs
+    got_whole (inl (told, tells, w)) = record_whole w.answer w.outcome_is w.one
+    got_whole (inr unopened) = absurd unopened.0
+
+    pub got_part : (unchanged → after ≡ Some before) → (outcome : Outcome)
+        → Performs files (Some before) after unchanged outcome (ToGet len offset name) → (outcome ≡ outcomes.Done → ⊥)
+        → WritesPart HEAD_LIMIT (Some before) after
+    unfolding Performs
+    got_part keeps outcome (inl (told, tells, w)) other = record_part w.answer outcome w.outcome_is w.one other
+    got_part keeps outcome (inr w) other = inl (keeps w.1)
 
 -- ---- the pages of archives
 

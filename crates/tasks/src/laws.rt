@@ -1,11 +1,17 @@
 //! Laws of the definitions that the contracts cite. These functions do nothing: each law is a
 //! contract.
+ghost use Rattle.std.specs.Io.KnownBytes.{Appends};
 ghost use Rattle.std.specs.Prelude.{◌≡◌, ◌<◌, ℕ, List, Option, Some, Result, Ok, Err, length, map};
-ghost use Rattle.command_line.specs.Commands.{Meaning, Refusal, Usage};
+ghost use Rattle.std.specs.Prelude.{true};
+ghost use Rattle.warc_core.specs.declared.next.TheConstants.{HEAD_LIMIT};
+ghost use Rattle.command_line.specs.Commands.{Meaning, Refusal, ToGet, Usage};
 ghost use Rattle.outcomes.specs.declared.outcome.Outcome.{Outcome};
 ghost use Rattle.outcomes.specs.declared.outcome.Outcome.TheVariants as outcomes;
 ghost use Rattle.query_text.specs.declared.fault.QueryFault.{QueryFault};
+ghost use Rattle.index_core.specs.Indexing.{Held, IsName, is_among};
+ghost use Rattle.index_core.specs.OneRecord.{IsOneRecord, WritesPart};
 ghost use Rattle.index_core.specs.OneText.{HasFront};
+ghost use Rattle.tasks.specs.Indexing.{AddsOne, archive_name};
 ghost use Rattle.query_core.specs.IndexFaults.{IsAnswerFaultOf};
 ghost use Rattle.query_core.specs.declared.fault.AnswerFault.{AnswerFault};
 ghost use Rattle.query_core.specs.declared.merging.TheConstants.{SOURCES_LIMIT};
@@ -150,6 +156,35 @@ pub fn failed_tasks_leave_a_front<F: Opener, O>(files: &F)
     faults_leave_a_front();
     faults_of_scans_leave_a_front();
 }
+
+/// Whatever an archive's bytes are, `get` writes one record if it ends as done, and otherwise a front
+/// of one, or nothing.
+pub fn get_writes_one_record<F: Opener, O>(files: &F)
+    ensures whole { (len : Option ℕ) → (offset : ℕ) → (name : List ℕ)
+        → (written : O → Option (List ℕ)) → (before : List ℕ) → (old new : O)
+        → IsDone (openings F.tells_archive F.index_bytes F.archive_failed F.index_failed
+        F.tells_input files.now) (ToGet len offset name) written before old new
+        → (text : List ℕ) × IsOneRecord HEAD_LIMIT text × Appends (Some before) (written new) text }
+    ensures front { (len : Option ℕ) → (offset : ℕ) → (name : List ℕ) → (outcome : Outcome)
+        → (written : O → Option (List ℕ)) → (before : List ℕ) → (old new : O)
+        → EndsAs (openings F.tells_archive F.index_bytes F.archive_failed F.index_failed
+        F.tells_input files.now) (ToGet len offset name) written before outcome old new
+        → (outcome ≡ outcomes.Done → ⊥) → WritesPart HEAD_LIMIT (Some before) (written new) }
+{}
+
+/// An archive whose name is bad, or is that of an archive that was added before, adds nothing, and
+/// the command isn't done.
+pub fn refused_names_add_nothing<F: Opener>(files: &F)
+    ensures bad { (input : Option (List ℕ)) → (name : List ℕ) → (outcome : Outcome)
+        → (old new : Held) → (IsName (archive_name input name) → ⊥)
+        → AddsOne (F.tells_archive files.now) (F.archive_failed files.now) input old name outcome new
+        → (new ≡ old) × (outcome ≡ outcomes.Done → ⊥) }
+    ensures used { (input : Option (List ℕ)) → (name : List ℕ) → (outcome : Outcome)
+        → (old new : Held) → IsName (archive_name input name)
+        → is_among old.names (archive_name input name) ≡ true
+        → AddsOne (F.tells_archive files.now) (F.archive_failed files.now) input old name outcome new
+        → (new ≡ old) × (outcome ≡ outcomes.Done → ⊥) }
+{}
 
 /// The exit status 0 says that what was asked was done, and flushed. Arguments that can't be read
 /// never end with it, and write nothing. Unless the status is 3, no write has failed.
