@@ -27,7 +27,9 @@ use scan_core::scan_writes_one_text;
 use std::alloc::Global;
 use std::io::Cursor;
 use std::rt::Runtime;
-use tasks::{Console, Opener, Outcome, done_tasks_write_one_text, failed_tasks_leave_a_front, perform};
+use tasks::{
+    Console, Opener, Outcome, done_tasks_write_one_text, failed_tasks_leave_a_front, perform,
+};
 use warc_core::laws::one_reading;
 
 /// A disk: the file of a name, once it is opened, is a stream of its bytes, and is read at any
