@@ -212,7 +212,7 @@ class Programs(Case):
             self.assertEqual(7, self.raises(ProgramEnded, index.count, ALL).status)
 
     def test_a_reply_that_is_none_is_an_error_of_the_program(self) -> None:
-        text = f'[ "$1" = serve ] || exec "{PROGRAM}" "$@"\nread query; printf "nothing\\n.\\n"; cat'
+        text = f'[ "$1" = serve ] || exec "{PROGRAM}" "$@"\nread query; read end; printf "nothing\\n.\\nrefused NoUrl\\n.\\n"; cat'
         index = self.open(self.put(lines(3)), program=self.script(text))
         self.assertIn("has replied b'nothing'", str(self.raises(ProgramError, index.count, ALL)))
 
@@ -315,7 +315,7 @@ class Threads(Case):
         """Of the two programs one waits until the other has answered."""
         text = f'[ "$1" = serve ] || exec "{PROGRAM}" "$@"\n' + (
             'mkdir "$0.first" 2> /dev/null && { read query; while [ ! -e "$0.done" ]; do sleep 0.01; done; }\n'
-            f'[ -e "$0.done" ] && {{ echo "[[]]"; echo .; }}\nexec "{PROGRAM}" "$@"'
+            f'[ -e "$0.done" ] && {{ read end; printf "[[]]\\n.\\nrefused NoUrl\\n.\\n"; }}\nexec "{PROGRAM}" "$@"'
         )
         index = self.open(self.put(lines(3)), program=self.script(text), processes=2)
         slow: list[int] = []

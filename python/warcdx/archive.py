@@ -12,7 +12,7 @@ from .errors import Fault, ProgramError, expect_type, number_of
 from .faults import NoRecord, Read, cannot_open
 from .files import open_at_once
 from .iterators import Again
-from .program import Path, find_packed_program, find_program, memory_file, operand, running, started, write_output
+from .program import Path, Process, find_packed_program, find_program, operand, running, write_output
 from .record import CLOSING, Record, RecordStream, Unreadable
 from .reported import fault
 from .usual_records import MAGIC, MOST, ArchiveFile, usual_record
@@ -183,9 +183,7 @@ class Archive:
 
     def _verdict_on(self, record: IO[bytes]) -> Optional[str]:
         """Returns the verdict on a record that a program writes, or None if the record or the verdict isn't whole."""
-        command = (self._program, "verify", _INPUT)
-        with memory_file() as said, started(command, said, record.fileno()) as process:
-            assert process.stdout is not None
+        with Process((self._program, "verify", _INPUT), record.fileno()) as process:
             found = _VERDICT.fullmatch(process.stdout.read())
             is_whole = process.wait() in (0, FAULTY)
         return found[1].decode() if found and is_whole else None
