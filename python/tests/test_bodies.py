@@ -15,7 +15,7 @@ from warcdx import Record, Unreadable, payload
 from warcdx.codings import Decoder, Limits, decoded
 from warcdx.http_messages import Message
 from warcdx.record import Head
-from warcdx.record_digests import BlockCheck
+from warcdx.record_digests import verdicts_of
 
 HAS_BROTLI = importlib.util.find_spec("brotli") is not None
 TEXT = b"<p>one</p>\n"
@@ -264,10 +264,9 @@ class Bodies(unittest.TestCase):
             for body in (shape.stored, shape.wanted):
                 fields = (("Content-Type", "application/http"), ("WARC-Payload-Digest", f"sha1:{hashlib.sha1(body).hexdigest()}"))
                 for size in (1, 7, len(shape.block)):
-                    check = BlockCheck(Head(fields), len(shape.block))
-                    for piece in cut(shape.block, *range(0, len(shape.block), size)):
-                        check.add(piece)
-                    self.assertEqual("same", check.verdicts().payload.value, (shape, size))
+                    pieces = cut(shape.block, *range(0, len(shape.block), size))
+                    found = verdicts_of(Head(fields), len(shape.block), pieces)
+                    self.assertEqual("same", found.payload.value, (shape, size))
 
     def test_the_reason_is_the_same_for_all_pieces(self) -> None:
         for fields, stored, reason in (

@@ -7,7 +7,7 @@ from .archive import Archive
 from .codings import Unreadable
 from .faults import NoRecord, Read
 from .record import Head
-from .record_digests import BlockCheck, Verdict
+from .record_digests import Verdict, verdicts_of
 from .reported import fault
 from .usual_records import ArchiveFile, NotUsual
 
@@ -49,7 +49,4 @@ def check_listed(archive: Archive, read: Optional[ArchiveFile] = None) -> Iterat
 
 
 def _checked(offset: int, head: Head, length: int, pieces: Iterator[bytes]) -> Checked:
-    check = BlockCheck(head, length)
-    for piece in pieces:
-        check.add(piece)
-    return Checked(offset, *check.verdicts())
+    return Checked(offset, *verdicts_of(head, length, pieces))
