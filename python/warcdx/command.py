@@ -193,14 +193,14 @@ def run(name: str, work: Callable[[BinaryIO], int]) -> int:
     """Runs a command, whose standard output is handed to `work`, and returns its exit status.
 
     All bytes that `work` writes or prints are on standard output, or a line of standard error says why they
-    aren't and the status is 3. The same is true of memory that can't be allocated, and of a file that can't be
-    used. INT, TERM and HUP end the process as they do by default, after what `work` has made is removed and its
+    aren't and the status is 3. The same is true of memory that can't be allocated, of a file that can't be
+    used, and of an Error that `work` raises. INT, TERM and HUP end the process as they do by default, after what `work` has made is removed and its
     programs are ended.
     """
     said = no_memory = message(name, "Memory")
     number: Optional[int] = None
     try:
-        return _run_on_standard_streams(work)
+        return _run_on_standard_streams(name, work)
     except Ended as ended:
         number = ended.number
     except (OSError, RuntimeError) as error:
@@ -215,7 +215,7 @@ def run(name: str, work: Callable[[BinaryIO], int]) -> int:
     return FAILED
 
 
-def _run_on_standard_streams(work: Callable[[BinaryIO], int]) -> int:
+def _run_on_standard_streams(name: str, work: Callable[[BinaryIO], int]) -> int:
     open_closed_streams()
     catch_signals()
     threading.excepthook = _end_of_thread
@@ -225,6 +225,8 @@ def _run_on_standard_streams(work: Callable[[BinaryIO], int]) -> int:
             status = work(output)
         except SystemExit as end:
             status = end.code if isinstance(end.code, int) else 0
+        except Error as error:
+            status = failure(name, error)
         output.flush()
         return status
     finally:

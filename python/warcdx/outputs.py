@@ -2,7 +2,6 @@
 import contextlib
 import errno
 import os
-import secrets
 from collections.abc import Iterator
 from typing import BinaryIO, Optional
 
@@ -26,7 +25,7 @@ def output_of(path: Optional[str], standard: BinaryIO) -> Iterator[BinaryIO]:
 def new_file(path: str) -> Iterator[BinaryIO]:
     """Makes a file that has its name once it is whole. Raises FileExistsError if anything has the name."""
     check_that_it_is_new(path)
-    begun = os.path.join(os.path.dirname(path), f".warcdx-output-{secrets.token_hex(8)}")
+    begun = os.path.join(os.path.dirname(path), f".warcdx-output-{os.urandom(8).hex()}")
     with contextlib.ExitStack() as stack:
         try:
             with blocked():

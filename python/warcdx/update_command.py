@@ -44,8 +44,7 @@ from collections import Counter
 from collections.abc import Sequence
 from typing import BinaryIO, Optional
 
-from .command import FAILED, Parser, failure, name_on_disk, number_from, printable, report, run
-from .errors import Error
+from .command import FAILED, Parser, name_on_disk, number_from, printable, report, run
 from .faults import advice_on_name
 from .files import is_in
 from .outputs import expect_folder
@@ -261,7 +260,5 @@ def main(arguments: Optional[Sequence[str]] = None) -> int:
         except (CannotUpdate, Failed) as error:
             report(NAME, f"{printable(given.index)}: {printable(str(error))}")
             return FAILED
-        except Error as error:
-            return failure(NAME, error)
 
     return run(NAME, work)

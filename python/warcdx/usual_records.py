@@ -197,7 +197,7 @@ class ArchiveFile:
                     yield Block(self.end, parts[0], len(parts[1]), iter(parts[1:]))
                 self.end += length
             else:
-                yield self._long_block(self._pieces_of_member() if is_packed else self._pieces_of_file())
+                yield self._long_block(self._pieces_of_member(self.end) if is_packed else self._pieces_of_file())
                 self.end = self._next
 
     def _parts(self, is_packed: bool, most: int) -> Optional[tuple[Optional[tuple[Fields, bytes]], int]]:
@@ -254,10 +254,10 @@ class ArchiveFile:
             left -= len(piece)
             yield piece
 
-    def _pieces_of_member(self) -> Iterator[bytes]:
-        """Yields the text of the next member. Sets `_next` at its end. Raises NotUsual if it isn't a good one."""
+    def _pieces_of_member(self, offset: int) -> Iterator[bytes]:
+        """Yields the text of the member at an offset. Sets `_next` at its end. Raises NotUsual if it isn't a good one."""
         unpacker, packed = zlib.decompressobj(_GZIP), b""
-        self._next = self.end
+        self._next = offset
         while not unpacker.eof:
             if not packed:
                 at = self._look(self._next, 1)
@@ -276,22 +276,16 @@ class ArchiveFile:
 
     def _member(self, offset: int, most: int) -> Optional[tuple[bytes, int]]:
         """Returns the text and the length of a good member whose text has at most `most` bytes."""
-        unpacker, pieces, left, end = zlib.decompressobj(_GZIP), [], most, offset
-        while left >= 0:
-            at = self._look(end, 1)
-            packed = self._held[at : at + _PACKED]
-            if not packed:
-                return None
-            try:
-                piece = unpacker.decompress(packed, left + 1)
-            except zlib.error:
-                return None
-            end += len(packed)
-            left -= len(piece)
-            pieces.append(piece)
-            if unpacker.eof and left >= 0:
-                return b"".join(pieces) if len(pieces) > 1 else piece, end - len(unpacker.unused_data) - offset
-        return None
+        pieces, left = list[bytes](), most
+        try:
+            for piece in self._pieces_of_member(offset):
+                pieces.append(piece)
+                left -= len(piece)
+                if left < 0:
+                    return None
+        except NotUsual:
+            return None
+        return b"".join(pieces), self._next - offset
 
     def _look(self, offset: int, least: int) -> int:
         """Holds `least` bytes or more from an offset on, if the file has them. Returns the index of the first one."""

@@ -53,7 +53,7 @@ from .inputs import read_again
 from .outputs import STANDARD, check_that_it_is_new, output_of
 from .progress import Lines, Silent, bar_on_terminal
 from .record_digests import Verdict
-from .resuming import CannotResume, Notes
+from .resuming import Notes
 from .streams import printable, report
 from .verifying import Checked, check_archive
 from .workers import run_one_by_one, run_side_by_side
@@ -244,8 +244,6 @@ def work(arguments: Optional[Sequence[str]], output: BinaryIO) -> int:
         check_that_it_is_new(given.output)  # before notes are made
     try:
         archives = Run(given)
-    except CannotResume as error:
-        return failure(NAME, error)
     except OSError as error:
         error.filename = given.resume  # and not where that leads
         raise
