@@ -23,7 +23,7 @@ from warcdx.states import MOST_RUNS
 from warcdx.update_archives import Found, FoundArchive, Passed
 from warcdx.update import Merging, batches_of
 from warcdx.update_reports import FAILED, Action, Report, damage_of
-from warcdx.update_tasks import Failed, _causes_of, _Lines, _whole_lines, add_hosts, index_archives, merge_runs
+from warcdx.update_tasks import Failed, _causes_of, _Lines, _whole_lines, add_hosts, filter_run, index_archives, merge_runs
 from warcdx.update_workers import Threads
 
 from .support import PROGRAM, SAMPLES
@@ -212,19 +212,17 @@ class TaskTest(unittest.TestCase):
         with mock.patch.object(update_tasks, "MOST_MERGED", 3):
             for number in range(10):
                 (folder / str(number)).write_bytes(lines_of(range(number, number + 2), f"{number}.warc"))
-            (folder / "mixed").write_bytes(lines_of(range(3), "a.warc") + lines_of(range(5, 7), "b.warc"))
-            runs: list[Any] = [*((str(number), None) for number in range(10)), ("mixed", ["b.warc"])]
-            path, size, crc_32, filtered = merge_runs(PROGRAM, str(folder), runs, str(folder / "new"))
+            path, size, crc_32 = merge_runs(PROGRAM, str(folder), [*map(str, range(10))], str(folder / "new"))
         found = pathlib.Path(path).read_bytes()
         names = [json.loads(line.split(b" ", 2)[2])["filename"] for line in found.splitlines()]
-        self.assertEqual(Counter(names), {**{f"{number}.warc": 2 for number in range(10)}, "b.warc": 2})
+        self.assertEqual(Counter(names), {f"{number}.warc": 2 for number in range(10)})
         self.assertEqual((size, crc_32), (len(found), zlib.crc32(found)))
-        left = lines_of(range(5, 7), "b.warc")
-        self.assertEqual([each[1:4] for each in filtered], [(len(left), zlib.crc32(left), 2)])
-        self.assertEqual({path.name for path in folder.iterdir()}, {*map(str, range(10)), "mixed", os.path.basename(path)})
-        path, size, crc_32, filtered = merge_runs(PROGRAM, str(folder), [("mixed", ["a.warc"])], str(folder / "only"))
-        self.assertEqual(pathlib.Path(path).read_bytes(), lines_of(range(3), "a.warc"))
-        self.assertEqual(filtered[0][4]["hosts"], {"h000.com": 1, "h001.com": 1, "h002.com": 1})
+        self.assertEqual({path.name for path in folder.iterdir()}, {*map(str, range(10)), os.path.basename(path)})
+        (folder / "mixed").write_bytes(lines_of(range(3), "a.warc") + lines_of(range(5, 7), "b.warc"))
+        path, size, crc_32, captures, counts = filter_run(str(folder), "mixed", ["a.warc"], str(folder / "only"))
+        left = lines_of(range(3), "a.warc")
+        self.assertEqual((left, len(left), zlib.crc32(left), 3), (pathlib.Path(path).read_bytes(), size, crc_32, captures))
+        self.assertEqual(counts["hosts"], {"h000.com": 1, "h001.com": 1, "h002.com": 1})
 
     def test_values_are_bounded(self) -> None:
         with mock.patch.object(update_tasks, "MOST_VALUES", 100):
@@ -326,7 +324,7 @@ class ThreadsTest(unittest.TestCase):
                 start(thread)
                 time.sleep(after)
                 os.kill(os.getpid(), signal.SIGTERM)
-                time.sleep(later)  # the thread has taken the signal, and the executor doesn't know of it yet
+                time.sleep(later)  # the thread has taken the signal, and isn't noted yet
 
             with mock.patch.object(threading.Thread, "start", start_and_end), self.assertRaises(Ended):
                 with Threads(2) as workers:

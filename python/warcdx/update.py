@@ -14,8 +14,8 @@ from .update_outputs import Single
 from .update_reports import FAILED, GONE, Action, Outcome, Report, Said, damage_of, reason_of
 from .update_store import Store
 from .update_tables import Archive, CannotUpdate, Merged, Run, Settings, text_of
-from .update_tasks import Failed, Indexed, Written, index_archives, merge_runs
-from .update_workers import Workers
+from .update_tasks import Failed, Indexed, Written, filter_run, index_archives, merge_runs
+from .update_workers import Task, Workers
 
 TRIES = 3  # of a task
 _LEAST = 1 << 16  # bytes of a run on the lowest level
@@ -221,32 +221,37 @@ class Update:
         """Makes a state with what is new, unless nothing is, and the one file of it."""
         if lost := sorted(self._store.archives().keys() - self._archives.keys()):
             raise CannotUpdate(f"{len(lost):,} archives can't be indexed anew whose runs are missing or damaged, such as {lost[0]!a}")
+        for run in self._store.runs():
+            if run.left and run.left != run.captures:
+                self._rewrite(workers, run)
         runs = self._store.runs()
-        unused = [run for run in runs if not run.left]
-        groups = self._groups([run for run in runs if run.left])
-        is_new = not self._store.noted.state or bool(groups or unused) or any(run.since is None for run in runs)
+        unused, used = [run for run in runs if not run.left], [run for run in runs if run.left]
+        number = self._merging.number([run.size for run in used])
+        is_new = not self._store.noted.state or number > 1 or bool(unused) or any(run.since is None for run in runs)
         if is_new or not members.items() <= json.loads(self._store.noted.summary).items():
             now = datetime.datetime.now(datetime.timezone.utc).strftime("%Y-%m-%dT%H:%M:%SZ")
-            merged = [self._merge(workers, group) for group in groups]
+            merged = self._merge(workers, used[:number]) if number > 1 else None
             self._store.publish(merged, unused, {"made": now, **members})
-        if self._single is not None and not self._single.is_current:
+        if self._single is not None and self._single.state() != self._store.noted.changed:
             self._single.take(self._merge(workers, self._store.runs()))
 
-    def _groups(self, runs: Sequence[Run]) -> list[Sequence[Run]]:
-        """Returns the runs that become one, and by itself each further one that has to be written anew."""
-        number = self._merging.number([run.size for run in runs])
-        number = number if number > 1 else 0
-        return [*[runs[:number]] * (number > 0), *([run] for run in runs[number:] if run.is_stale)]
+    def _rewrite(self, workers: Workers, run: Run) -> None:
+        """Makes a run in place of one that has captures of archives that were removed or indexed anew."""
+        number, written = self._made(workers, filter_run, self._store.runs_folder, run.file, self._store.names_in(run))
+        self._store.replace(run, number, written)
 
     def _merge(self, workers: Workers, runs: Sequence[Run]) -> Merged:
-        """Makes a run of others, without the captures of archives that these have lost. Raises the error of the last try."""
-        sources = [(run.file, self._store.names_in(run) if run.is_stale else None) for run in runs]
+        files = [run.file for run in runs]
+        number, (path, size, crc_32) = self._made(workers, merge_runs, self._program, self._store.runs_folder, files)
+        return Merged(number, path, size, crc_32, runs)
+
+    def _made(self, workers: Workers, task: Task, *arguments: Any) -> tuple[int, Any]:
+        """Does a task that makes a run. Returns the number of the run, and the result. Raises the error of the last try."""
         for left in reversed(range(TRIES)):
             (number,) = self._store.reserve(1)
-            ((_, outcome),) = workers.run(merge_runs, [(self._program, self._store.runs_folder, sources, self._store.new(number))])
+            ((_, outcome),) = workers.run(task, [(*arguments, self._store.new(number))])
             if not isinstance(outcome, Exception):
-                path, size, crc_32, filtered = outcome
-                return Merged(number, path, size, crc_32, runs, dict(zip((run.number for run in runs if run.is_stale), filtered)))
+                return number, outcome
         raise outcome if isinstance(outcome, (Failed, OSError)) else CannotUpdate(reason_of(outcome))
 
 

@@ -157,7 +157,7 @@ def update(given: argparse.Namespace, output: BinaryIO) -> int:
     if given.dry_run:
         with store.opened(settings):
             if single is not None:
-                single.expect()
+                single.state()
             print_plan(given, work, output)
         return 0
     workers: Workers = Cluster(given.scheduler) if given.scheduler else Threads(given.jobs)

@@ -16,7 +16,7 @@ import subprocess
 import zlib
 from collections import Counter
 from collections.abc import Callable, Iterator, Sequence
-from typing import IO, Optional
+from typing import IO
 
 FAULT = 1  # the exit status of the program after a damaged archive
 FIELDS = ("hosts", "years", "types", "statuses")  # of which the captures are counted
@@ -89,39 +89,29 @@ def index_archives(
         return written, [(name, state, causes[name], lines.captures[name]) for name, state in zip(names, states)]
 
 
-def merge_runs(
-    program: str, folder: str, runs: Sequence[tuple[str, Optional[list[str]]]], output: str, start: Start = subprocess.Popen
-) -> tuple[str, int, int, list[Written]]:
-    """Merges runs of a folder, some of them without the lines of others than archives of these names.
+def filter_run(folder: str, run: str, names: Sequence[str], output: str, start: Start = subprocess.Popen) -> Written:
+    """Writes a run of a folder anew, without the lines of other archives than these, into a new file whose path begins with `output`."""
+    kept = frozenset(map(_json_of, names))
+    with open(os.path.join(folder, run), "rb") as file, _new(output) as new:
+        lines = _Lines(new)
+        for piece in _whole_lines(file):
+            lines.write(b"".join(line for line in piece.splitlines(keepends=True) if line[line.rfind(_NAME) + len(_NAME) : -2] in kept))
+        return lines.end()
 
-    Returns the path of the new file, which begins with `output`, its size, its CRC-32, and what is left of those runs. The program
-    reads each run as a check does.
+
+def merge_runs(program: str, folder: str, files: Sequence[str], output: str, start: Start = subprocess.Popen) -> tuple[str, int, int]:
+    """Merges runs of a folder into a new file, whose path begins with `output`. Returns its path, its size and its CRC-32.
+
+    The program reads each run as a check does.
     """
-    if len(runs) == 1 and runs[0][1] is not None:
-        only = _filter(os.path.join(folder, runs[0][0]), runs[0][1], output)
-        return *only[:3], [only]
-    filtered, files = [], []
+    files = list(files)
     with contextlib.ExitStack() as stack:
-        for file, names in runs:
-            if names is not None:
-                filtered.append(_filter(os.path.join(folder, file), names, output))
-                stack.callback(os.remove, filtered[-1][0])
-            files.append(file if names is None else os.path.basename(filtered[-1][0]))
         while len(files) > MOST_MERGED:
             path, _ = _merge((program, "merge", *files[:MOST_MERGED]), folder, output, start)
             stack.callback(os.remove, path)
             files[:MOST_MERGED] = [os.path.basename(path)]
         path, size = _merge((program, "merge", *files), folder, output, start)
-    return path, size, crc_32_of(path), filtered
-
-
-def _filter(path: str, names: Sequence[str], output: str) -> Written:
-    kept = frozenset(map(_json_of, names))
-    with open(path, "rb") as run, _new(output) as file:
-        lines = _Lines(file)
-        for piece in _whole_lines(run):
-            lines.write(b"".join(line for line in piece.splitlines(keepends=True) if line[line.rfind(_NAME) + len(_NAME) : -2] in kept))
-        return lines.end()
+    return path, size, crc_32_of(path)
 
 
 def _merge(command: Sequence[str], folder: str, output: str, start: Start) -> tuple[str, int]:
