@@ -60,6 +60,8 @@ class Archive:
     alone decides what is at fault. An archive is opened for each call, so `with` and `close` close nothing.
     """
 
+    _may_be_packed = False
+
     def __init__(self, path: Path, *, program: str = "warcdx") -> None:
         self.path = operand(path)
         self._program = find_program(program)
@@ -100,8 +102,8 @@ class Archive:
     def _records(self) -> Generator[Record, None, None]:
         file = None
         try:
-            with self.opened() as (file, is_packed):
-                yield from file.records(is_packed)
+            with self.opened() as file:
+                yield from file.records()
         except (OSError, ValueError):
             pass  # the program says why the file can't be read
         if file is None or file.end < file.size:
@@ -199,11 +201,9 @@ class Archive:
         only = () if length is None else ("--length", str(length))
         return self._program, "get", *only, str(offset), self.path
 
-    @contextlib.contextmanager
-    def opened(self) -> Iterator[tuple[ArchiveFile, bool]]:
-        """Opens the file, and yields it and whether it is compressed. Raises OSError or ValueError."""
-        with ArchiveFile(self.path) as file:
-            yield file, self._is_packed(file)
+    def opened(self) -> ArchiveFile:
+        """Opens the file. Raises OSError or ValueError."""
+        return ArchiveFile(self.path, self._may_be_packed)
 
     def close(self) -> None:
         """Does nothing: no file is open between two calls."""
@@ -224,15 +224,10 @@ class Archive:
         """
         offset, length = number_of("offset", offset), None if length is None else number_of("length", length)
         try:
-            with ArchiveFile(self.path) as file:
-                if self._is_packed(file):
-                    return file.member_text(offset, length, most)
-                return None if length is None else file.plain_text(offset, length, most)
+            with self.opened() as file:
+                return file.text(offset, length, most)
         except (OSError, ValueError):
             return None  # the program says why the file can't be read
-
-    def _is_packed(self, file: ArchiveFile) -> bool:
-        return False
 
     def _identity(self) -> Optional[tuple[int, int]]:
         """Returns what another file in the archive's place doesn't have. It stays the same if the archive is written on."""
@@ -286,11 +281,10 @@ class CompressedArchive(Archive):
     member. Further faults are NoMember, BadMember, CutMember and SeveralRecords of `warcdx.faults`.
     """
 
+    _may_be_packed = True
+
     def __init__(self, path: Path, *, program: str = "warcdx") -> None:
         super().__init__(path, program=find_packed_program(program))
-
-    def _is_packed(self, file: ArchiveFile) -> bool:
-        return file.is_packed()
 
 
 def open_archive(path: Path, *, program: str = "warcdx") -> Archive:

@@ -136,7 +136,7 @@ class ArchiveFile:
 
     _number = -1
 
-    def __init__(self, path: str) -> None:
+    def __init__(self, path: str, may_be_packed: bool = True) -> None:
         if not stat.S_ISREG(os.stat(path).st_mode):  # to open a pipe would be seen by who writes it
             raise OSError("not a regular file")
         self._number = os.open(path, os.O_RDONLY | os.O_CLOEXEC | os.O_NONBLOCK)  # a pipe may have taken its place
@@ -145,67 +145,59 @@ class ArchiveFile:
         if not self.size or not stat.S_ISREG(found.st_mode):  # or the system can't give the size, as of a file in /proc
             self.close()
             raise OSError("not a regular file of a size")
+        self.is_packed = may_be_packed and os.pread(self._number, len(MAGIC), 0) == MAGIC
         self.end = 0
         self._next = 0  # the offset behind a record that was read in pieces
         self._start = 0  # the offset of the bytes that are held
         self._held = b""
 
-    def is_packed(self) -> bool:
-        """Returns whether the file begins as a compressed archive does."""
-        return os.pread(self._number, len(MAGIC), 0) == MAGIC
+    def text(self, offset: int, length: Optional[int] = None, most: int = MOST) -> Optional[bytes]:
+        """Returns the text of the record at an offset, which has this length if one is given, or whose member has.
 
-    def plain_text(self, offset: int, length: int, most: int = MOST) -> Optional[bytes]:
-        """Returns these bytes of a plain archive, or None if they are too many or the file ends in them."""
-        if length > most or not 0 <= offset <= self.size - length:
-            return None
-        text = os.pread(self._number, length, offset)
-        return text if len(text) == length else None
-
-    def member_text(self, offset: int, length: Optional[int] = None, most: int = MOST) -> Optional[bytes]:
-        """Returns the text of the member of gzip that begins at an offset, and has this length if one is given.
-
-        Returns None if that isn't so, or the text has more than `most` bytes.
+        Returns None if that isn't so, if the text has more than `most` bytes, and for a plain record without a length.
         """
-        if length is not None and length > most or not 0 <= offset < self.size:
+        if length is not None and length > most or not 0 <= offset <= self.size - (length or 1):
             return None
         if length is not None:  # nothing else is read
             self._held, self._start = os.pread(self._number, length, offset), offset
+        if not self.is_packed:
+            return self._held if length == len(self._held) else None
         found = self._member(offset, most)
         return found[0] if found and length in (None, found[1]) else None
 
-    def records(self, is_packed: bool) -> Iterator[Record]:
+    def records(self) -> Iterator[Record]:
         """Yields the records of an archive, up to the first one that isn't of the usual form.
 
         Members of a compressed archive without a text are passed over.
         """
-        while found := self._parts(is_packed, MOST):
+        while found := self._parts(MOST):
             parts, length = found
             start = self.end
             self.end += length
             if parts is not None:
                 yield Record(*parts, start, length)
 
-    def blocks(self, is_packed: bool) -> Iterator[Block]:
+    def blocks(self) -> Iterator[Block]:
         """Yields the same records to be read in pieces, each to its end before the next one, with little memory.
 
         Raises NotUsual at the first record that isn't of the usual form, or in its pieces. `end` is its offset then.
         """
         while self.end < self.size:
-            if found := self._parts(is_packed, _MOST_HELD):
+            if found := self._parts(_MOST_HELD):
                 parts, length = found
                 if parts is not None:
                     yield Block(self.end, parts[0], len(parts[1]), iter(parts[1:]))
                 self.end += length
             else:
-                yield self._long_block(self._pieces_of_member(self.end) if is_packed else self._pieces_of_file())
+                yield self._long_block(self._pieces_of_member(self.end) if self.is_packed else self._pieces_of_file())
                 self.end = self._next
 
-    def _parts(self, is_packed: bool, most: int) -> Optional[tuple[Optional[tuple[Fields, bytes]], int]]:
+    def _parts(self, most: int) -> Optional[tuple[Optional[tuple[Fields, bytes]], int]]:
         """Returns the fields and the block of the next record, and its length, if it is usual and has at most `most` bytes.
 
         A member without a text has neither.
         """
-        if not is_packed:
+        if not self.is_packed:
             return self._plain_parts(self.end, most)
         found = self._member(self.end, most)
         if found is None:

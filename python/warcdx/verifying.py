@@ -28,8 +28,8 @@ def check_archive(archive: Archive) -> Generator[Checked, None, None]:
     """
     file = None
     try:
-        with archive.opened() as (file, is_packed):
-            for block in file.blocks(is_packed):
+        with archive.opened() as file:
+            for block in file.blocks():
                 yield _checked(block.offset, Head(block.fields), block.length, block.pieces)
             return
     except (NotUsual, OSError, ValueError):
