@@ -1,10 +1,9 @@
 """Files that are made under names of their own, and are on the disk before anything stands on them."""
 import contextlib
-import errno
 import io
 import os
 import stat
-from collections.abc import Iterable, Iterator
+from collections.abc import Iterable
 from typing import Optional, Union
 
 Path = Union[str, os.PathLike[str]]
@@ -30,41 +29,14 @@ def is_regular(path: Path, size: Optional[int] = None) -> bool:
 
 def write_new(path: Path, texts: Iterable[str]) -> None:
     """Writes a file that is made now, in ASCII. It is on the disk, or isn't there. Raises OSError."""
-    with open(path, "xb") as file, _removed_if_failed(path):
-        file.writelines(text.encode("ascii") for text in texts)
-        file.flush()
-        os.fsync(file.fileno())
-
-
-def move(path: Path, new_path: Path) -> None:
-    """Gives a file a name that nothing has yet, also on another file system. It is on the disk. Raises OSError."""
-    try:
-        if os.path.lexists(new_path):
-            raise FileExistsError(errno.EEXIST, os.strerror(errno.EEXIST), os.fspath(new_path))
-        os.rename(path, new_path)
-    except OSError as error:
-        if error.errno != errno.EXDEV:
+    with open(path, "xb") as file:
+        try:
+            file.writelines(text.encode("ascii") for text in texts)
+            file.flush()
+            os.fsync(file.fileno())
+        except BaseException:
+            remove(path)
             raise
-        _copy(path, new_path)
-        os.remove(path)
-
-
-def _copy(path: Path, new_path: Path) -> None:
-    import shutil  # which is seldom needed
-
-    with open(path, "rb") as source, open(new_path, "xb") as file, _removed_if_failed(new_path):
-        shutil.copyfileobj(source, file)
-        file.flush()
-        os.fsync(file.fileno())
-
-
-@contextlib.contextmanager
-def _removed_if_failed(path: Path) -> Iterator[None]:
-    try:
-        yield
-    except BaseException:
-        remove(path)
-        raise
 
 
 def remove(path: Path) -> None:

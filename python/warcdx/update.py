@@ -233,25 +233,29 @@ class Update:
             merged = self._merge(workers, used[:number]) if number > 1 else None
             self._store.publish(merged, unused, {"made": now, **members})
         if self._single is not None and self._single.state() != self._store.noted.changed:
-            self._single.take(self._merge(workers, self._store.runs()))
+            self._single.take(*self._merged(workers, self._store.runs(), self._single.new))
 
     def _rewrite(self, workers: Workers, run: Run) -> None:
         """Makes a run in place of one that has captures of archives that were removed or indexed anew."""
-        number, written = self._made(workers, filter_run, self._store.runs_folder, run.file, self._store.names_in(run))
-        self._store.replace(run, number, written)
+        (number,) = self._store.reserve(1)
+        names, new = self._store.names_in(run), self._store.new(number)
+        self._store.replace(run, number, self._done(workers, filter_run, self._store.runs_folder, run.file, names, new))
 
     def _merge(self, workers: Workers, runs: Sequence[Run]) -> Merged:
-        files = [run.file for run in runs]
-        number, (path, size, crc_32) = self._made(workers, merge_runs, self._program, self._store.runs_folder, files)
-        return Merged(number, path, size, crc_32, runs)
+        (number,) = self._store.reserve(1)
+        return Merged(number, *self._merged(workers, runs, self._store.new(number)), runs)
 
-    def _made(self, workers: Workers, task: Task, *arguments: Any) -> tuple[int, Any]:
-        """Does a task that makes a run. Returns the number of the run, and the result. Raises the error of the last try."""
-        for left in reversed(range(TRIES)):
-            (number,) = self._store.reserve(1)
-            ((_, outcome),) = workers.run(task, [(*arguments, self._store.new(number))])
+    def _merged(self, workers: Workers, runs: Sequence[Run], output: str) -> tuple[str, int, int]:
+        files = [run.file for run in runs]
+        path, size, crc_32 = self._done(workers, merge_runs, self._program, self._store.runs_folder, files, output)
+        return path, size, crc_32
+
+    def _done(self, workers: Workers, task: Task, *arguments: Any) -> Any:
+        """Does a task, and returns its result. Raises the error of the last try."""
+        for _ in range(TRIES):
+            ((_, outcome),) = workers.run(task, [arguments])
             if not isinstance(outcome, Exception):
-                return number, outcome
+                return outcome
         raise outcome if isinstance(outcome, (Failed, OSError)) else CannotUpdate(reason_of(outcome))
 
 

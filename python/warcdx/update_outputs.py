@@ -5,9 +5,9 @@ import stat
 import zlib
 from typing import Optional
 
-from .files import move, remove, write_to_disk
+from .files import remove, write_to_disk
 from .update_store import Store
-from .update_tables import CannotUpdate, Merged
+from .update_tables import CannotUpdate
 
 
 class Single:
@@ -21,7 +21,16 @@ class Single:
     def begin(self) -> None:
         """Removes what an ended run of the command has left. Raises as `state` does."""
         self.state()
-        remove(self._new)
+        folder, name = os.path.split(self.new)
+        for left in os.listdir(folder):
+            if left.startswith(f"{name}-"):
+                remove(os.path.join(folder, left))
+
+    @property
+    def new(self) -> str:
+        """How the path begins at which a task makes the file. A copy of the store beside another index has another one."""
+        name = f".warcdx-{self._store.noted.token}-{zlib.crc32(os.fsencode(self.path)):08x}"
+        return os.path.join(os.path.dirname(self.path), name)
 
     def state(self) -> Optional[int]:
         """Returns the first state with the runs of the file, or None if there is no file.
@@ -41,18 +50,11 @@ class Single:
             raise CannotUpdate(f"no earlier update has made {self.path} as it is, and it isn't replaced: give another INDEX")
         return self._read[1]
 
-    def take(self, merged: Merged) -> None:
-        """Replaces the file by one of the last state, which may be on another disk."""
-        move(merged.path, self._new)
+    def take(self, path: str, size: int, crc_32: int) -> None:
+        """Replaces the file by one of the last state, which is in the same folder."""
         with contextlib.suppress(FileNotFoundError):
-            os.chmod(self._new, os.stat(self.path).st_mode & 0o7777)
-        self._store.know(merged.size, merged.crc_32)
+            os.chmod(path, os.stat(self.path).st_mode & 0o7777)
+        self._store.know(size, crc_32)
         self.state()
-        os.replace(self._new, self.path)
+        os.replace(path, self.path)
         write_to_disk(os.path.dirname(self.path))
-
-    @property
-    def _new(self) -> str:
-        """Where the file is made. A copy of the store beside another index has another name for it."""
-        name = f".warcdx-{self._store.noted.token}-{zlib.crc32(os.fsencode(self.path)):08x}"
-        return os.path.join(os.path.dirname(self.path), name)

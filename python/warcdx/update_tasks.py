@@ -109,7 +109,7 @@ def merge_runs(program: str, folder: str, files: Sequence[str], output: str, sta
         while len(files) > MOST_MERGED:
             path, _ = _merge((program, "merge", *files[:MOST_MERGED]), folder, output, start)
             stack.callback(os.remove, path)
-            files[:MOST_MERGED] = [os.path.basename(path)]
+            files[:MOST_MERGED] = [path]
         path, size = _merge((program, "merge", *files), folder, output, start)
     return path, size, crc_32_of(path)
 
