@@ -23,8 +23,9 @@ from warcdx.states import MOST_RUNS
 from warcdx.update_archives import Found, FoundArchive, Passed
 from warcdx.update import Merging, batches_of
 from warcdx.update_reports import FAILED, Action, Report, damage_of
-from warcdx.update_tasks import Failed, _causes_of, _Lines, _whole_lines, add_hosts, filter_run, index_archives, merge_runs
+from warcdx.update_tasks import Failed, _causes_of, _Lines, _whole_lines, filter_run, host_key_of, index_archives, merge_runs
 from warcdx.update_workers import Threads
+from warcdx.url_keys import host_of
 
 from .support import PROGRAM, SAMPLES
 from .test_update_store import in_folder, lines_of
@@ -222,7 +223,7 @@ class TaskTest(unittest.TestCase):
         path, size, crc_32, captures, counts = filter_run(str(folder), "mixed", ["a.warc"], str(folder / "only"))
         left = lines_of(range(3), "a.warc")
         self.assertEqual((left, len(left), zlib.crc32(left), 3), (pathlib.Path(path).read_bytes(), size, crc_32, captures))
-        self.assertEqual(counts["hosts"], {"h000.com": 1, "h001.com": 1, "h002.com": 1})
+        self.assertEqual(counts["hosts"], {"com,h000": 1, "com,h001": 1, "com,h002": 1})
 
     def test_values_are_bounded(self) -> None:
         with mock.patch.object(update_tasks, "MOST_VALUES", 100):
@@ -267,24 +268,18 @@ class TaskTest(unittest.TestCase):
 
     def test_the_hosts_of_keys(self) -> None:
         hosts = {
-            b"com,example)/": b"example.com",
-            b"com,example:8080)/a)/b": b"example.com:8080",
-            b"192.0.2.7)/x": b"192.0.2.7",
-            b"[2001:db8::1]:8080)/": b"[2001:db8::1]:8080",
-            b"dns:example.com": b"dns:",
-            b"dns:example.com)": b"dns:",
-            b"urn:x:a)b)/": b"urn:",
-            b"not%20a%20url": b"not%20a%20url:",
-            b"": b":",
+            b"com,example)/": "example.com",
+            b"com,example:8080)/a)/b": "example.com:8080",
+            b"192.0.2.7)/x": "192.0.2.7",
+            b"[2001:db8::1]:8080)/": "[2001:db8::1]:8080",
+            b"dns:example.com": "dns:",
+            b"dns:example.com)": "dns:",
+            b"urn:x:a)b)/": "urn:",
+            b"not%20a%20url": "not%20a%20url:",
+            b"": ":",
         }
         for key, host in hosts.items():
-            counts = Counter[bytes]()
-            add_hosts(counts, [key, key])
-            self.assertEqual(counts, {host: 2}, key)
-        sorted_keys = [b"com,a)/", b"com,a)/x", b"com,a)/x", b"com,a,b)/", b"com,a:80)/", b"com,ab)/", b"dns:a", b"dns:b"]
-        counts = Counter[bytes]()
-        add_hosts(counts, sorted_keys)
-        self.assertEqual(counts, {b"a.com": 3, b"b.a.com": 1, b"a.com:80": 1, b"ab.com": 1, b"dns:": 2})
+            self.assertEqual(host_of(f"{host_key_of(key).decode()})/"), host)
 
 
 class ThreadsTest(unittest.TestCase):

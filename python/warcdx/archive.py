@@ -4,7 +4,7 @@ import io
 import os
 import re
 import stat
-from collections.abc import Generator, Iterator
+from collections.abc import Callable, Generator, Iterator
 from typing import IO, NamedTuple, Optional, TypeVar
 
 from .advice import advice_on
@@ -15,11 +15,12 @@ from .iterators import Again
 from .program import Path, Process, find_packed_program, find_program, operand, running, write_output
 from .record import CLOSING, Record, RecordStream, Unreadable
 from .reported import fault
-from .usual_records import MAGIC, MOST, ArchiveFile, usual_record
+from .usual_records import MAGIC, MOST, ArchiveFile, Block, NotUsual, usual_record
 
 FAULTY = 1  # the exit status after a fault that is on the output, and after a digest that differs
 _INPUT = "-"
 _Archive = TypeVar("_Archive", bound="Archive")
+_Read = TypeVar("_Read")
 _MOST = (1 << 63) - 1  # bytes before the end of a record
 _MOST_STREAMED = 1 << 20  # bytes of a record that `stream` holds in memory
 _VERDICT = re.compile(b"0 ([a-z0-9-]+)\n")
@@ -56,7 +57,7 @@ class Archive:
     The iterators read the archive as they are advanced. If it is damaged, they raise the class of
     `warcdx.faults` that is named as the program names the cause, after all records before the damage.
 
-    Records of the usual form, of up to 64 MB, are read by this process. All others are asked of the program, which
+    Records of the usual form are read by this process. All others are asked of the program, which
     alone decides what is at fault. An archive is opened for each call, so `with` and `close` close nothing.
     """
 
@@ -97,18 +98,27 @@ class Archive:
 
         Records of the usual form are read by this process, and others are asked of the program.
         """
-        return Again(self._records())
+        records = self.each(lambda block: (block, b"".join(block.pieces)))
+        return Again(Record(block.fields, text, block.offset, size) for (block, text), size in records)
 
-    def _records(self) -> Generator[Record, None, None]:
+    def each(self, read: Callable[[Block], _Read]) -> Generator[tuple[_Read, int], None, None]:
+        """Yields what is made of each record by `read`, which reads its block to the end, and the length of the record in the file.
+
+        Records of the usual form are read by this process, and once. From the first other one on, `list` of the program
+        finds the records, and has read a member to its end. It says too why the file can't be read.
+        """
         file = None
         try:
             with self.opened() as file:
-                yield from file.records()
-        except (OSError, ValueError):
-            pass  # the program says why the file can't be read
-        if file is None or file.end < file.size:
-            for listed, stream in self.listed_streams(file):
-                yield Record(stream.head.fields, b"".join(stream.whole_block()), listed.offset, listed.length)
+                for block in file.blocks():
+                    yield read(block), file.next - block.offset
+            return
+        except (NotUsual, OSError, ValueError):
+            pass
+        for listed, stream in self.listed_streams(file):
+            yield read(Block(listed.offset, stream.head.fields, stream.length, stream.whole_block())), listed.length
+        if file is not None and (size := os.stat(self.path).st_size) < file.size:  # another process has cut it
+            raise fault("ShortHead", self.path, size)
 
     def streams(self) -> Iterator[RecordStream]:
         """Yields each record to be read in pieces, before the next one is taken. Long ones take little memory so."""

@@ -15,14 +15,20 @@ class OutputError(OSError):
     """Standard output can't be written."""
 
 
-class _StandardInput(io.RawIOBase):
-    """Standard input. Where reading doesn't wait, as of a pipe that its other users have set so, this waits."""
+class _Standard(io.RawIOBase):
+    """Standard input or output. Where reading or writing doesn't wait, as of a pipe that its other users have set so, this waits."""
+
+    def __init__(self, number: int) -> None:
+        self._number = number
 
     def readable(self) -> bool:
-        return True
+        return self._number == 0
+
+    def writable(self) -> bool:
+        return self._number == 1
 
     def fileno(self) -> int:
-        return 0
+        return self._number
 
     def readinto(self, room: "bytearray | memoryview") -> int:  # type: ignore[override]
         while True:
@@ -30,14 +36,6 @@ class _StandardInput(io.RawIOBase):
                 return os.readv(0, [room])
             except BlockingIOError:
                 _wait_for(0, select.POLLIN)
-
-
-class _StandardOutput(io.RawIOBase):
-    def writable(self) -> bool:
-        return True
-
-    def fileno(self) -> int:
-        return 1
 
     def write(self, data: "bytes | bytearray | memoryview") -> int:  # type: ignore[override]
         while True:
@@ -86,8 +84,8 @@ def open_closed_streams() -> None:
 def replace_standard_streams() -> io.BufferedWriter:
     """Returns standard output."""
     # Unbuffered, a file of Python writes a part of what it is given. This one writes all of it.
-    output = io.BufferedWriter(_StandardOutput(), _BUFFER)
-    sys.stdin = io.TextIOWrapper(io.BufferedReader(_StandardInput(), _BUFFER))
+    output = io.BufferedWriter(_Standard(1), _BUFFER)
+    sys.stdin = io.TextIOWrapper(io.BufferedReader(_Standard(0), _BUFFER))
     sys.stdout = io.TextIOWrapper(output, "utf-8", "surrogateescape", "\n", write_through=True)
     errors = io.BufferedWriter(_StandardError())
     sys.stderr = io.TextIOWrapper(errors, "utf-8", "backslashreplace", "\n", line_buffering=True)

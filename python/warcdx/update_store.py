@@ -15,6 +15,7 @@ from typing import Any, Optional
 from . import states, update_tables
 from .ending import blocked
 from .files import is_regular, remove, write_to_disk
+from .url_keys import host_of
 from .update_tables import Archive, CannotUpdate, Merged, Noted, Run, Settings, text_of
 from .update_tasks import FIELDS, MOST_VALUES, Indexed, Written, crc_32_of, state_of
 
@@ -48,10 +49,16 @@ class Store:
         return False
 
     def _is_made(self) -> bool:
-        if self._is_filled():
-            return True
-        self._expect_unused(set() if self._ask("SELECT 1 FROM sqlite_master LIMIT 1") else _BEGUN)
-        return False
+        """Returns whether the database has the tables of an index. Raises CannotUpdate if others have changed them."""
+        is_begun = not self._ask("SELECT 1 FROM sqlite_master LIMIT 1")
+        if is_begun or self._ask("PRAGMA application_id") != [(_APPLICATION,)]:
+            self._expect_unused(_BEGUN if is_begun else set())
+            return False
+        if self._ask("PRAGMA user_version") != [(FORM,)]:
+            raise CannotUpdate(f"another version of warcdx-update has made {self.folder}")
+        if not update_tables.are_whole(self._database):
+            raise _changed_by_others(self._path)
+        return True
 
     def _expect_unused(self, begun: "set[str]") -> None:
         """Raises CannotUpdate if the folder has something else than what was begun."""
@@ -63,17 +70,6 @@ class Store:
             raise _changed_by_others(self._path) if os.path.lexists(self._path) else CannotUpdate(f"{self._path} is missing; {_WAY_OUT}")
         if names:
             raise CannotUpdate(f"warcdx-update hasn't made all that is in {self.folder}, and doesn't use it; give another INDEX")
-
-    def _is_filled(self) -> bool:
-        """Returns whether the database has the tables of an index. Raises CannotUpdate if others have changed them."""
-        (application,), (form,) = self._ask("PRAGMA application_id")[0], self._ask("PRAGMA user_version")[0]
-        if application != _APPLICATION or not self._ask("SELECT 1 FROM sqlite_master LIMIT 1"):
-            return False
-        if form != FORM:
-            raise CannotUpdate(f"another version of warcdx-update has made {self.folder}")
-        if not update_tables.are_whole(self._database):
-            raise _changed_by_others(self._path)
-        return True
 
     @contextlib.contextmanager
     def locked(self, settings: Settings) -> Iterator[None]:
@@ -325,9 +321,8 @@ class Store:
         for field in FIELDS:
             order = "value" if field == "years" else "2 DESC, value"
             most = MOST_VALUES if field == "years" else MOST_SHOWN
-            found[field] = dict(
-                self._ask(f"SELECT value, SUM(counts.captures) {in_runs} GROUP BY value ORDER BY {order} LIMIT ?", field, most)
-            )
+            rows = self._ask(f"SELECT value, SUM(counts.captures) {in_runs} GROUP BY value ORDER BY {order} LIMIT ?", field, most)
+            found[field] = {host_of(f"{value})/") or value if field == "hosts" else value: count for value, count in rows}
         counted = {field: self._ask(f"SELECT IFNULL(SUM(counts.captures), 0) {in_runs}", field)[0][0] for field in FIELDS}
         return {**found, "others": {field: captures - count for field, count in counted.items()}}
 

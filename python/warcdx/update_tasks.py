@@ -3,7 +3,6 @@
 A worker on another machine needs the programs, and not this package: a task is sent to it with the functions of this module.
 So this module stands on the standard library alone. All that it is given and returns is of plain values.
 """
-import bisect
 import contextlib
 import io
 import json
@@ -177,8 +176,7 @@ class _Lines:
         return self._file.name, self._size, self._crc_32, self._lines, counts
 
     def _count(self, keys: Sequence[bytes], years: Sequence[bytes], types: Sequence[bytes], statuses: Sequence[bytes]) -> None:
-        add_hosts(self._counts["hosts"], keys)
-        for field, values in (("years", years), ("types", types), ("statuses", statuses)):
+        for field, values in zip(FIELDS, (map(host_key_of, keys), years, types, statuses)):
             self._counts[field].update(map(_FRONT, values))
         for field, counter in self._counts.items():
             if len(counter) > MOST_VALUES:
@@ -198,25 +196,10 @@ def _value_of(front: bytes) -> str:
     return text
 
 
-def add_hosts(hosts: "Counter[bytes]", keys: Sequence[bytes]) -> None:
-    """Counts the hosts of URL keys, which are sorted, so that those of a host follow one another."""
-    at = 0
-    while at < len(keys):
-        front, slash, _ = keys[at].partition(b")/")
-        end = bisect.bisect_left(keys, front + b")0", at + 1) if slash else at + 1  # `0` is the byte behind `/`
-        hosts[_FRONT(_host_of(front + slash))] += end - at
-        at = end
-
-
-def _host_of(front: bytes) -> bytes:
-    """Returns the host with its port of a URL key that begins so, up to the first `)/`. Of another key it is the scheme."""
-    labels = front[:-2]
-    if not front.endswith(b")/") or b")" in labels:
-        return front.partition(b":")[0] + b":"
-    if labels.startswith(b"["):
-        return labels
-    host, colon, port = labels.partition(b":")
-    return b".".join(reversed(host.split(b","))) + colon + port
+def host_key_of(key: bytes) -> bytes:
+    """Returns the front of a URL key that names the host, up to the first `)/`. Of another key it is the scheme with its colon."""
+    front, slash, _ = key.partition(b")/")
+    return front if slash and b")" not in front else key.partition(b":")[0] + b":"
 
 
 def _json_of(name: str) -> bytes:

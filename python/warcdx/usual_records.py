@@ -20,7 +20,6 @@ from .record import CLOSING, Record
 MAGIC = b"\x1f\x8b"  # what a compressed archive begins with, and each of its members
 MOST = 1 << 26  # bytes of a record that is read here
 _MOST_HEAD = 1 << 16  # bytes of a usual head; the program takes longer ones
-_MOST_HELD = 1 << 20  # bytes of a record that isn't read in pieces
 _AHEAD = 1 << 16  # bytes of an archive that are read at once
 _PACKED = 1 << 13  # bytes that are unpacked from at once: what follows a member is copied
 _GZIP = 16 + zlib.MAX_WBITS
@@ -131,7 +130,8 @@ def _checked(length: int, pieces: Iterator[bytes]) -> Iterator[bytes]:
 class ArchiveFile:
     """An archive that is open to be read at any place. Raises OSError if it isn't a file, or can't be opened, or has no size.
 
-    `size` is that of the file when it was opened, in bytes, and `identity` what no other file has. `end` is the offset up to which records were yielded.
+    `size` is that of the file when it was opened, in bytes, and `identity` what no other file has. `end` is the offset up to which records were yielded, and
+    `next` what follows the one that is read.
     """
 
     _number = -1
@@ -147,7 +147,7 @@ class ArchiveFile:
             raise OSError("not a regular file of a size")
         self.is_packed = may_be_packed and os.pread(self._number, len(MAGIC), 0) == MAGIC
         self.end = 0
-        self._next = 0  # the offset behind a record that was read in pieces
+        self.next = 0  # the offset behind what was read of a record
         self._start = 0  # the offset of the bytes that are held
         self._held = b""
 
@@ -165,96 +165,60 @@ class ArchiveFile:
         found = self._member(offset, most)
         return found[0] if found and length in (None, found[1]) else None
 
-    def records(self) -> Iterator[Record]:
-        """Yields the records of an archive, up to the first one that isn't of the usual form.
-
-        Members of a compressed archive without a text are passed over.
-        """
-        while found := self._parts(MOST):
-            parts, length = found
-            start = self.end
-            self.end += length
-            if parts is not None:
-                yield Record(*parts, start, length)
-
     def blocks(self) -> Iterator[Block]:
-        """Yields the same records to be read in pieces, each to its end before the next one, with little memory.
+        """Yields the records to be read in pieces, each to its end before the next one, with little memory.
 
-        Raises NotUsual at the first record that isn't of the usual form, or in its pieces. `end` is its offset then.
+        Members of a compressed archive without a text are passed over. Raises NotUsual at the first record that isn't of
+        the usual form, or in its pieces. `end` is its offset then.
         """
         while self.end < self.size:
-            if found := self._parts(_MOST_HELD):
-                parts, length = found
-                if parts is not None:
-                    yield Block(self.end, parts[0], len(parts[1]), iter(parts[1:]))
-                self.end += length
-            else:
-                yield self._long_block(self._pieces_of_member(self.end) if self.is_packed else self._pieces_of_file())
-                self.end = self._next
+            if block := self._packed_block() if self.is_packed else self._plain_block():
+                yield block
+            self.end = self.next
 
-    def _parts(self, most: int) -> Optional[tuple[Optional[tuple[Fields, bytes]], int]]:
-        """Returns the fields and the block of the next record, and its length, if it is usual and has at most `most` bytes.
-
-        A member without a text has neither.
-        """
-        if not self.is_packed:
-            return self._plain_parts(self.end, most)
-        found = self._member(self.end, most)
-        if found is None:
-            return None
-        parts = _usual_parts(found[0])
-        return (parts, found[1]) if parts or not found[0] else None
-
-    def _plain_parts(self, offset: int, most: int) -> Optional[tuple[tuple[Fields, bytes], int]]:
-        head = self._plain_head(offset)
-        if head is None:
-            return None
-        fields, start, length = head
-        size = start + length + len(CLOSING)
-        if size > most or offset + size > self.size:
-            return None
-        at = self._look(offset, size)
-        text = self._held[at : at + size]
-        return ((fields, text[start : -len(CLOSING)]), size) if text.endswith(CLOSING) else None
-
-    def _plain_head(self, offset: int) -> Optional[_Head]:
-        at = self._look(offset, 1)
+    def _plain_block(self) -> Block:
+        at = self._look(self.end, 1)
         head = usual_head(self._held, at)
         if head is None and at:  # it may end in what isn't held yet
-            at = self._look(offset, _AHEAD)
+            at = self._look(self.end, _AHEAD)
             head = usual_head(self._held, at)
-        return head
+        if head is None:
+            raise NotUsual
+        fields, start, length = head
+        self.next = self.end + start
+        return Block(self.end, fields, length, _checked(length, self._pieces(length + len(CLOSING))))
 
-    def _long_block(self, pieces: Iterator[bytes]) -> Block:
-        """Returns the record of these pieces. Raises NotUsual if its head isn't usual."""
-        text = b""
+    def _pieces(self, left: int) -> Iterator[bytes]:
+        """Yields as many bytes behind `_next` as are left, if the file has them, and sets `_next` behind them."""
+        while self.next + left <= self.size and left:
+            size = min(left, _AHEAD)
+            at = self._look(self.next, size)
+            piece = self._held[at : at + size]
+            self.next += len(piece)
+            left = left - len(piece) if piece else 0
+            yield piece
+
+    def _packed_block(self) -> Optional[Block]:
+        pieces, text = self._pieces_of_member(self.end), b""
         while len(text) < _MOST_HEAD and (piece := next(pieces, b"")):
             text += piece
         head = usual_head(text)
         if head is None:
-            raise NotUsual
+            if text:
+                raise NotUsual
+            return None
         fields, start, length = head
         return Block(self.end, fields, length, _checked(length, itertools.chain((text[start:],), pieces)))
-
-    def _pieces_of_file(self) -> Iterator[bytes]:
-        """Yields the next record of a plain archive. Sets `_next` at its end."""
-        head = self._plain_head(self.end)
-        self._next = self.end
-        left = head[1] + head[2] + len(CLOSING) if head else 0
-        while left and (piece := os.pread(self._number, min(left, _AHEAD), self._next)):
-            self._next += len(piece)
-            left -= len(piece)
-            yield piece
 
     def _pieces_of_member(self, offset: int) -> Iterator[bytes]:
         """Yields the text of the member at an offset. Sets `_next` at its end. Raises NotUsual if it isn't a good one."""
         unpacker, packed = zlib.decompressobj(_GZIP), b""
-        self._next = offset
+        self.next = offset
         while not unpacker.eof:
             if not packed:
-                at = self._look(self._next, 1)
+                at = self._look(self.next, 1)
                 packed = self._held[at : at + _PACKED]
-                self._next += len(packed)
+                self.next += len(packed)
             if not packed:
                 raise NotUsual
             try:
@@ -264,7 +228,7 @@ class ArchiveFile:
             packed = unpacker.unconsumed_tail
             if piece:
                 yield piece
-        self._next -= len(unpacker.unused_data)
+        self.next -= len(unpacker.unused_data)
 
     def _member(self, offset: int, most: int) -> Optional[tuple[bytes, int]]:
         """Returns the text and the length of a good member whose text has at most `most` bytes."""
@@ -277,7 +241,7 @@ class ArchiveFile:
                     return None
         except NotUsual:
             return None
-        return b"".join(pieces), self._next - offset
+        return b"".join(pieces), self.next - offset
 
     def _look(self, offset: int, least: int) -> int:
         """Holds `least` bytes or more from an offset on, if the file has them. Returns the index of the first one."""
