@@ -1,7 +1,8 @@
 """What the parameters of a call of `Index` ask for, and which one of a query the program refuses: its reply has the cause alone."""
+import inspect
 import re
-from collections.abc import Callable
-from typing import NamedTuple, Optional
+from collections.abc import Callable, Mapping
+from typing import Any, NamedTuple, Optional, TypedDict, TypeVar
 from urllib.parse import unquote_plus
 
 from .errors import expect_type, number_of
@@ -10,6 +11,7 @@ from .query import Query, Texts, Value
 from .reported import refused
 from .stamps import Moment, stamp_of
 
+_Call = TypeVar("_Call", bound=Callable[..., Any])
 _QUERY_TEXT = re.compile("&*[A-Za-z0-9%+_]*[=&]")  # how a query text begins, and no URL does
 _TARGETS = {"url", "key", "matchType"}
 _REPEATABLE = ("filter", "is", "isnot", "has", "hasnot")
@@ -30,6 +32,36 @@ _ONLY = {
 _STAMP = re.compile("[0-9]{1,14}")
 
 
+class Selection(TypedDict, total=False):
+    """The parameters of a call that select captures, besides a URL. The docstring of `Index` says what they are."""
+
+    match: Optional[str]
+    since: Moment
+    until: Moment
+    filter: Optional[Texts]
+    limit: Optional[int]
+    query: Optional[str]
+    key: Optional[str]
+    matchType: Optional[str]
+    from_: Moment
+    to: Moment
+    is_: Optional[Texts]
+    isnot: Optional[Texts]
+    has: Optional[Texts]
+    hasnot: Optional[Texts]
+    collapse: Optional[str]
+    resumeKey: Optional[str]
+
+
+def selecting(call: _Call) -> _Call:
+    """Gives a call that takes a Selection the signature that its types say, for help and completion."""
+    found = inspect.signature(call)
+    named = [inspect.Parameter(name, inspect.Parameter.KEYWORD_ONLY, annotation=kind) for name, kind in Selection.__annotations__.items()]
+    parameters = [*list(found.parameters.values())[:-1], *(each.replace(default=None) for each in named)]
+    setattr(call, "__signature__", found.replace(parameters=parameters))
+    return call
+
+
 class Asked(NamedTuple):
     """A query, and how many captures it is to give at most, or None for all. The query itself has no limit then."""
 
@@ -37,21 +69,13 @@ class Asked(NamedTuple):
     limit: Optional[int]
 
     @classmethod
-    def of(
-        cls,
-        url: Optional[str],
-        query: Optional[str],
-        match: Optional[str],
-        since: Moment,
-        until: Moment,
-        filter: Texts,
-        limit: Optional[int],
-        others: dict[str, Value],
-    ) -> "Asked":
+    def of(cls, url: Optional[str], selection: Mapping[str, Any]) -> "Asked":
         """Returns what parameters ask for: all captures, if they have no URL, no key and no query text.
 
         Raises the refusal Unknown for a name that no parameter has, and BadStamp for what is no date.
         """
+        others = dict(selection)
+        query, match, since, until, limit = (others.pop(name, None) for name in ("query", "match", "since", "until", "limit"))
         _check_names(others)
         for name, text in (("url", url), ("query", query)):
             expect_type(name, text, (str, type(None)), "a text")
@@ -68,7 +92,6 @@ class Asked(NamedTuple):
             given["from"] = stamp_of("since", since)
         if until is not None:
             given["to"] = stamp_of("until", until)
-        given["filter"] = filter
         return cls._with_limit(Query.of(query, {**given, **others}), limit)
 
     @classmethod

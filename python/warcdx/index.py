@@ -4,18 +4,20 @@ import itertools
 import queue
 import weakref
 from collections.abc import Callable, Generator, Iterable, Iterator, Sequence
-from typing import Any, NoReturn, Optional, Union
+from typing import TYPE_CHECKING, Any, NoReturn, Optional, Union
 
-from .asked import Asked, parameter_of
+from .asked import Asked, Selection, parameter_of, selecting
 from .errors import Refused, expect_type, number_of
 from .fields import FIELDS
 from .index_files import open_files
 from .iterators import Again
 from .program import Path, find_program, operands
-from .query import MOST_LIMIT, Capture, Page, Query, RowPage, Texts, Value, fits, in_bytes, length_of, one_line, rows_query, split_rows
+from .query import MOST_LIMIT, Capture, Page, Query, RowPage, fits, in_bytes, length_of, one_line, rows_query, split_rows
 from .reported import refused
 from .serve import Serve
-from .stamps import Moment
+
+if TYPE_CHECKING:
+    from typing_extensions import Unpack
 
 PAGE_SIZE = 5000  # captures that an iterator holds at a time
 _VALUES: dict[str, Callable[[str], object]] = {"length": length_of, "offset": int}
@@ -92,101 +94,60 @@ class Index:
             self._turns.put(True)
         self._streaming: weakref.WeakSet[Serve] = weakref.WeakSet()  # those of streams that are half read
 
+    @selecting
     def captures(
-        self,
-        url: Optional[str] = None,
-        *,
-        match: Optional[str] = None,
-        since: Moment = None,
-        until: Moment = None,
-        filter: Texts = (),
-        limit: Optional[int] = None,
-        query: Optional[str] = None,
-        page_size: Optional[int] = PAGE_SIZE,
-        **parameters: Value,
+        self, url: Optional[str] = None, *, page_size: Optional[int] = PAGE_SIZE, **selection: "Unpack[Selection]"
     ) -> Iterator[Capture]:
         """Yields the captures that a query selects, in order: as many as `limit`, or all.
 
         They are read page by page, and `page_size` of them are held at a time, or more if the keys at the ends of
         pages are too long for a query. Other queries are answered meanwhile, however slowly the captures are taken.
         """
-        asked = Asked.of(url, query, match, since, until, filter, limit, parameters)
+        asked = Asked.of(url, selection)
         return Again(Capture.of(row) for rows, _ in self._row_pages(asked, FIELDS, page_size) for row in rows)
 
-    def pages(
-        self,
-        url: Optional[str] = None,
-        *,
-        match: Optional[str] = None,
-        since: Moment = None,
-        until: Moment = None,
-        filter: Texts = (),
-        limit: Optional[int] = None,
-        query: Optional[str] = None,
-        page_size: Optional[int] = PAGE_SIZE,
-        **parameters: Value,
-    ) -> Iterator[Page]:
+    @selecting
+    def pages(self, url: Optional[str] = None, *, page_size: Optional[int] = PAGE_SIZE, **selection: "Unpack[Selection]") -> Iterator[Page]:
         """Yields the same captures page by page, each with the resume key of the next page."""
-        asked = Asked.of(url, query, match, since, until, filter, limit, parameters)
+        asked = Asked.of(url, selection)
         return Again(Page(tuple(map(Capture.of, rows)), key) for rows, key in self._row_pages(asked, FIELDS, page_size))
 
-    def page(
-        self,
-        url: Optional[str] = None,
-        *,
-        match: Optional[str] = None,
-        since: Moment = None,
-        until: Moment = None,
-        filter: Texts = (),
-        limit: Optional[int] = None,
-        query: Optional[str] = None,
-        resume_key: Optional[str] = None,
-        **parameters: Value,
-    ) -> Page:
+    @selecting
+    def page(self, url: Optional[str] = None, *, resume_key: Optional[str] = None, **selection: "Unpack[Selection]") -> Page:
         """Returns one page of at most `limit` captures: the first one, or that after a `resume_key` of another page."""
         if resume_key is not None:
-            parameters["resumeKey"] = resume_key
-        asked = Asked.of(url, query, match, since, until, filter, limit, parameters)
+            selection["resumeKey"] = resume_key
+        asked = Asked.of(url, selection)
         rows, key = self._page(asked.query, FIELDS, asked.limit)
         return Page(tuple(map(Capture.of, rows)), key)
 
+    @selecting
     def rows(
         self,
         fields: Union[str, Sequence[str]],
         url: Optional[str] = None,
         *,
-        match: Optional[str] = None,
-        since: Moment = None,
-        until: Moment = None,
-        filter: Texts = (),
-        limit: Optional[int] = None,
-        query: Optional[str] = None,
         page_size: Optional[int] = PAGE_SIZE,
-        **parameters: Value,
+        **selection: "Unpack[Selection]",
     ) -> Iterator[list[str]]:
         """Yields the values of these fields of each capture that a query selects, as texts."""
-        asked = Asked.of(url, query, match, since, until, filter, limit, parameters)
+        asked = Asked.of(url, selection)
         return Again(row for rows, _ in self._row_pages(asked, _fields_of(fields), page_size) for row in rows)
 
+    @selecting
     def columns(
         self,
         fields: Union[str, Sequence[str]] = FIELDS,
         url: Optional[str] = None,
         *,
-        match: Optional[str] = None,
-        since: Moment = None,
-        until: Moment = None,
-        filter: Texts = (),
-        limit: Optional[int] = None,
-        query: Optional[str] = None,
         page_size: Optional[int] = PAGE_SIZE,
-        **parameters: Value,
+        **selection: "Unpack[Selection]",
     ) -> dict[str, list[Any]]:
         """Returns a list for each of these fields: its values of all captures that a query selects, up to `limit`.
 
         The lists have the order of the captures, and values as those of a Capture. All of them are held in memory.
         """
-        asked = Asked.of(url, query, match, since, until, filter, limit, parameters)
+        asked = Asked.of(url, selection)
         columns: dict[str, list[Any]] = {field: [] for field in _fields_of(fields)}
         for rows, _ in self._row_pages(asked, tuple(columns), page_size):
             for column, values in zip(columns.values(), zip(*rows)):
@@ -195,20 +156,10 @@ class Index:
             columns[field] = list(map(_VALUES[field], columns[field]))
         return columns
 
-    def count(
-        self,
-        url: Optional[str] = None,
-        *,
-        match: Optional[str] = None,
-        since: Moment = None,
-        until: Moment = None,
-        filter: Texts = (),
-        limit: Optional[int] = None,
-        query: Optional[str] = None,
-        **parameters: Value,
-    ) -> int:
+    @selecting
+    def count(self, url: Optional[str] = None, **selection: "Unpack[Selection]") -> int:
         """Returns how many captures a query selects, up to `limit`."""
-        asked = Asked.of(url, query, match, since, until, filter, limit, parameters)
+        asked = Asked.of(url, selection)
         return sum(len(rows) for rows, _ in self._row_pages(asked, ("offset",), PAGE_SIZE))
 
     def __iter__(self) -> Iterator[Capture]:
