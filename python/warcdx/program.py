@@ -16,7 +16,7 @@ from typing import IO, Optional, Union, cast
 from .ending import blocked
 from .errors import NO_STATUS, Error, ProgramError, ProgramMissing, ProgramTooOld, ReplyTooLate, expect_type
 from .reported import error_of
-from .streams import whole
+from .streams import Watched, whole
 
 Path = Union[str, os.PathLike[str]]
 
@@ -255,24 +255,6 @@ def memory_file() -> IO[bytes]:
         raise _not_started("a file in memory", error) from error
 
 
-class _TimedOutput(io.RawIOBase):
-    """The output of a program that has to write the next piece, or end, within `seconds` each time."""
-
-    def __init__(self, pipe: IO[bytes], seconds: float) -> None:
-        self._number = pipe.fileno()
-        self._seconds = seconds
-        self._poll = select.poll()
-        self._poll.register(self._number, select.POLLIN)
-
-    def readable(self) -> bool:
-        return True
-
-    def readinto(self, room: "bytearray | memoryview") -> int:  # type: ignore[override]
-        if not self._poll.poll(self._seconds * 1000):
-            raise ReplyTooLate(f"the program has written nothing for {self._seconds:g} seconds")
-        return os.readv(self._number, [room])
-
-
 @contextlib.contextmanager
 def running(
     *command: str, good: tuple[int, ...] = (0,), stdin: Optional[int] = None, seconds: Optional[float] = None
@@ -283,8 +265,12 @@ def running(
     If the output was read to its end, raises what the program has reported, unless its exit status is one
     of the good ones. A program whose output isn't read to its end is ended.
     """
+
+    def end() -> None:
+        raise ReplyTooLate(f"the program has written nothing for {seconds:g} seconds")
+
     with Process(command, stdin) as process:
-        output = process.stdout if seconds is None else io.BufferedReader(_TimedOutput(process.stdout, seconds))
+        output = process.stdout if seconds is None else io.BufferedReader(Watched(process.stdout, seconds, end))
         yield output
         if not output.read(1) and process.wait() not in good:
             raise process.error()

@@ -6,6 +6,7 @@ import json
 import os
 import select
 import sys
+from collections.abc import Callable
 from typing import IO, cast
 
 _BUFFER = 1 << 16  # bytes
@@ -154,3 +155,22 @@ def whole(output: IO[bytes]) -> IO[bytes]:
         raise TypeError(f"the output is a file that is open to write bytes, and not {output!r:.60}")
     given: object = output
     return cast("IO[bytes]", _Whole(given)) if isinstance(given, io.RawIOBase) else output
+
+
+class Watched(io.RawIOBase):
+    """The output of a program. Each time that nothing has come for some seconds, `look` is called, which may raise an error."""
+
+    def __init__(self, pipe: IO[bytes], seconds: float, look: Callable[[], None]) -> None:
+        self._number = pipe.fileno()
+        self._seconds = seconds
+        self._look = look
+        self._poll = select.poll()
+        self._poll.register(self._number, select.POLLIN)
+
+    def readable(self) -> bool:
+        return True
+
+    def readinto(self, room: "bytearray | memoryview") -> int:  # type: ignore[override]
+        while not self._poll.poll(self._seconds * 1000):
+            self._look()
+        return os.readv(self._number, [room])

@@ -1,7 +1,7 @@
 """The tasks of warcdx-update: they index archives, write a run anew without some of them, and merge runs.
 
 A worker on another machine needs the programs, and not this package: a task is sent to it with the functions of this module.
-So this module stands on the standard library alone. All that it is given and returns is of plain values.
+So this module stands on the standard library, and on a class that is sent too. All that it is given and returns is of plain values.
 """
 import contextlib
 import io
@@ -9,13 +9,14 @@ import json
 import operator
 import os
 import re
-import select
 import stat
 import subprocess
 import zlib
 from collections import Counter
 from collections.abc import Callable, Iterator, Sequence
 from typing import IO
+
+from .streams import Watched
 
 FAULT = 1  # the exit status of the program after a damaged archive
 FIELDS = ("hosts", "years", "types", "statuses")  # of which the captures are counted
@@ -68,7 +69,7 @@ def index_archives(
     def find_states() -> list[State]:
         return [state_of(os.path.join(folder, name)) for name in names]
 
-    def expect_no_change() -> None:
+    def expect_no_change() -> None:  # the program would wait for ever for who writes a pipe in the place of an archive
         if find_states() != states:
             raise Failed("the archive was changed while it was indexed")
 
@@ -77,7 +78,7 @@ def index_archives(
         lines = _Lines(file, names)
         with _running((program, "index", *words, *(f"./{name}" for name in names)), folder, start) as (process, said):
             assert process.stdout is not None
-            for piece in _whole_lines(io.BufferedReader(_Watched(process.stdout, expect_no_change))):
+            for piece in _whole_lines(io.BufferedReader(Watched(process.stdout, _SILENCE, expect_no_change))):
                 lines.write(piece)
             status, causes, text = _wait(process), _causes_of(said, names), _text_of(said)
         if status not in (0, FAULT) or status and not any(causes.values()):
@@ -241,27 +242,6 @@ def _running(
                 yield process, said
             finally:
                 process.kill()
-
-
-class _Watched(io.RawIOBase):
-    """The output of a program. Each time that nothing has come for some seconds, `look` is called.
-
-    It raises an error if an archive isn't there any more. The program would wait for ever for who writes a pipe in its place.
-    """
-
-    def __init__(self, pipe: IO[bytes], look: Callable[[], None]) -> None:
-        self._number = pipe.fileno()
-        self._look = look
-        self._poll = select.poll()
-        self._poll.register(self._number, select.POLLIN)
-
-    def readable(self) -> bool:
-        return True
-
-    def readinto(self, room: "bytearray | memoryview") -> int:  # type: ignore[override]
-        while not self._poll.poll(_SILENCE * 1000):
-            self._look()
-        return os.readv(self._number, [room])
 
 
 def _wait(process: "subprocess.Popen[bytes]") -> int:
