@@ -9,6 +9,7 @@ from .archive import Archive, expect_file, open_archive
 from .asked import Selection, selecting
 from .errors import NoArchive, expect_type
 from .faults import cannot_open
+from .files import is_in
 from .fitting import fitting_record, fitting_stream
 from .index import PAGE_SIZE, Index
 from .program import Path, find_program, operands
@@ -141,16 +142,9 @@ def find_archive(folders: Sequence[Path], name: str, links: Optional[Sequence[Pa
     path = _path_of(name)
     for folder in folders if path is not None else ():
         found = os.path.join(os.fspath(folder), path or "")
-        if os.path.exists(found) and (links is None or _is_in(found, (folder, *links))):
+        if os.path.exists(found) and (links is None or any(is_in(found, each) for each in (folder, *links))):
             return found
     return None
-
-
-def _is_in(path: str, folders: Sequence[Path]) -> bool:
-    """Returns whether a file is in one of some folders, without links in the way."""
-    real = os.path.realpath(path)
-    roots = [os.path.realpath(os.fspath(folder)) for folder in folders]
-    return any(os.path.commonpath((real, root)) == root for root in roots)
 
 
 def _path_of(name: str) -> Optional[str]:

@@ -3,8 +3,8 @@ import contextlib
 import io
 import os
 import stat
-from collections.abc import Iterable
-from typing import Optional, Union
+from collections.abc import Iterator
+from typing import IO, Optional, Union
 
 Path = Union[str, os.PathLike[str]]
 
@@ -27,15 +27,16 @@ def is_regular(path: Path, size: Optional[int] = None) -> bool:
     return stat.S_ISREG(found.st_mode) and size in (None, found.st_size)
 
 
-def write_new(path: Path, texts: Iterable[str]) -> None:
-    """Writes a file that is made now, in ASCII. It is on the disk, or isn't there. Raises OSError."""
+@contextlib.contextmanager
+def made(path: Path) -> Iterator[IO[bytes]]:
+    """Opens a file that is made now. It is on the disk at the end, or isn't there. Raises OSError."""
     with open(path, "xb") as file:
         try:
-            file.writelines(text.encode("ascii") for text in texts)
+            yield file
             file.flush()
             os.fsync(file.fileno())
         except BaseException:
-            remove(path)
+            os.remove(path)
             raise
 
 

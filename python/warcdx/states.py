@@ -11,7 +11,7 @@ from collections.abc import Mapping, Sequence
 from typing import Any, NamedTuple, Optional
 
 from .faults import cannot_open
-from .files import Path, is_regular, open_at_once, remove, write_new, write_to_disk
+from .files import Path, is_regular, made, open_at_once, remove, write_to_disk
 
 CURRENT = "current"  # leads to the folder of the state that is the index now
 FOLDERS = STATES, RUNS = "states", "runs"
@@ -96,10 +96,12 @@ def show(folder: str, number: int, runs: Sequence[Listed], summary: Mapping[str,
         if not _has_link(state, run.file):
             os.symlink(f"../../{RUNS}/{run.file}", f"{state}/{run.file}")
     if not runs and not is_regular(f"{state}/{_EMPTY}", 0):
-        write_new(f"{state}/{_EMPTY}", ())
+        with made(f"{state}/{_EMPTY}"):
+            pass
     for name, values in ((MANIFEST, _manifest_of(number, runs)), (SUMMARY, summary)):
         remove(f"{state}/{name}")
-        write_new(f"{state}/{name}", [json.dumps(values, indent=1), "\n"])
+        with made(f"{state}/{name}") as file:
+            file.write(json.dumps(values, indent=1).encode() + b"\n")
     if is_link(link):
         os.remove(link)
     for each in (state, f"{folder}/{STATES}"):

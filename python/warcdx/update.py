@@ -125,19 +125,15 @@ class Update:
         reports += self._index(workers, plan.new)
         failure = None
         try:
-            self._forget(plan.removed)
+            self._store.forget(plan.removed)
+            for name in plan.removed:
+                self._archives.pop(name, None)
             self._publish(workers, self._members(plan, found, reports))
         except (CannotUpdate, Failed, OSError) as error:
             failure = reason_of(error)
         reports.sort(key=lambda report: report.archive)
         is_there = bool(shown(self._store.folder)) if self._single is None else os.path.exists(self._single.path)
         return Outcome(reports, failure, is_there, plan.gone, found.passed, self._store.faults())
-
-    def _forget(self, archives: Sequence[str]) -> None:
-        if archives:
-            self._store.forget(archives)
-        for name in archives:
-            self._archives.pop(name, None)
 
     def _reports_of_others(self, plan: Plan, found: Found) -> Iterator[Report]:
         """Yields a report on each archive that isn't indexed now."""
@@ -175,13 +171,13 @@ class Update:
                         continue
                     for each in batch:
                         self._progress.advance(each.size)
-                        yield self._failure(each.name, reason_of(error), each.size) if error else self._success(each.name)
+                        if error is not None:
+                            yield self._failure(each.name, reason_of(error), each.size)
+                        else:
+                            yield Report.of(each.name, self._archives[each.name], Action.INDEXED)
                 batches = [[each] for each in failed]
         finally:
             self._progress.end()
-
-    def _success(self, name: str) -> Report:
-        return Report.of(name, self._archives[name], Action.INDEXED)
 
     def _try(self, workers: Workers, batches: Sequence[list[FoundArchive]]) -> Iterator[tuple[list[FoundArchive], Optional[Exception]]]:
         """Indexes archives that belong together by one task. Yields them, and why that has failed if it has."""

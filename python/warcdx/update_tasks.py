@@ -1,7 +1,7 @@
 """The tasks of warcdx-update: they index archives, write a run anew without some of them, and merge runs.
 
 A worker on another machine needs the programs, and not this package: a task is sent to it with the functions of this module.
-So this module stands on the standard library, and on a class that is sent too. All that it is given and returns is of plain values.
+So this module stands on the standard library, and on what is sent of two other modules. All that it is given and returns is of plain values.
 """
 import contextlib
 import io
@@ -16,6 +16,7 @@ from collections import Counter
 from collections.abc import Callable, Iterator, Sequence
 from typing import IO
 
+from .files import made
 from .streams import Watched
 
 FAULT = 1  # the exit status of the program after a damaged archive
@@ -207,21 +208,12 @@ def _json_of(name: str) -> bytes:
     return json.dumps(name, ensure_ascii=False).encode()
 
 
-@contextlib.contextmanager
-def _new(front: str) -> Iterator[IO[bytes]]:
+def _new(front: str) -> contextlib.AbstractContextManager[IO[bytes]]:
     """Opens a file that is made now, and whose path begins so. It is on the disk at the end, or isn't there.
 
     Its name is another one if a cluster runs a task again whose worker is gone.
     """
-    path = f"{front}-{os.urandom(8).hex()}"
-    with open(path, "xb") as file:
-        try:
-            yield file
-            file.flush()
-            os.fsync(file.fileno())
-        except BaseException:
-            os.remove(path)
-            raise
+    return made(f"{front}-{os.urandom(8).hex()}")
 
 
 @contextlib.contextmanager

@@ -10,7 +10,7 @@ import threading
 from collections.abc import Callable, Iterator, Sequence
 from typing import Any, Union
 
-from . import streams, update_tasks
+from . import files, streams, update_tasks
 from .ending import blocked
 from .program import executable
 from .update_tables import CannotUpdate
@@ -126,7 +126,7 @@ class Cluster(contextlib.ExitStack):
         except ImportError:
             raise CannotUpdate("the module distributed is missing (Debian's package python3-distributed)") from None
         logging.disable()  # what Dask logs of a lost worker isn't for the user
-        for module in (streams, update_tasks):
+        for module in (files, streams, update_tasks):
             cloudpickle.register_pickle_by_value(module)
         try:
             client = self.enter_context(distributed.Client(self._address))
