@@ -7,7 +7,7 @@ from collections.abc import Generator, Iterator, Sequence
 from dataclasses import dataclass
 from typing import NamedTuple, Optional
 
-from .codings import UNLIMITED, Decoder, Limits, Unreadable, decoded
+from .codings import UNLIMITED, Decoder, Limits, Unreadable
 from .errors import expect_type
 from .iterators import Again
 
@@ -197,17 +197,18 @@ class Message:
         If not, or if that can't be known, no field Content-Encoding may be sent with `stored_payload`.
         """
         codings, held = self.transfer_codings + self._content_codings, list[bytes]()
+
+        def read() -> Iterator[bytes]:
+            for piece in itertools.islice(self.body, _MOST_HELD):
+                held.append(piece)
+                yield piece
+
         try:
             decoder = Decoder(codings, limits)
         except Unreadable:  # they are too many
             return False
         with contextlib.suppress(Unreadable):
-            for piece in itertools.islice(self.body, _MOST_HELD):
-                held.append(piece)
-                if next(decoder.feed(piece), b""):
-                    break
-            else:
-                next(decoder.end(), b"")
+            next(decoder.over(read()), None)
         self.body = itertools.chain(held, self.body)
         return decoder.has_last(len(self._content_codings))
 
@@ -233,7 +234,7 @@ class Message:
     def _decoded(self) -> Generator[bytes, None, None]:
         """Yields the body. If it can't be read, and the record is truncated (ISO 28500:2017, 5.13), the reason says so."""
         try:
-            yield from decoded(self._decoder, self.body)
+            yield from self._decoder.over(self.body)
         except Unreadable as fault:
             if self._truncated is None:
                 raise
