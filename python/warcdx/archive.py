@@ -134,12 +134,7 @@ class Archive:
         for listed in self.list():
             if listed.offset < start:
                 continue
-            text = self._text_at(listed.offset, listed.length, _MOST_STREAMED)
-            if text is not None:
-                self._expect(before)
-                yield listed, RecordStream(*_parted(text))
-                continue
-            with self._stream_by_program(listed.offset, listed.length) as stream:
+            with self._stream(listed.offset, listed.length, True) as stream:
                 self._expect(before)
                 yield listed, stream
 
@@ -153,7 +148,11 @@ class Archive:
         """
         text = self._text_at(offset, length, MOST)
         found = None if text is None else usual_record(text, offset, length)
-        return self._record_by_program(offset, length) if found is None else found
+        if found is not None:
+            return found
+        with running(*self._get(offset, length)) as output:
+            text = output.read()
+        return Record.read(text, offset, length)
 
     get = record
 
@@ -161,23 +160,24 @@ class Archive:
         """Writes the record that begins at an offset. Raises as `get` does, after a part of it may be written."""
         write_output(output, *self._get(offset, length))
 
-    @contextlib.contextmanager
-    def stream(self, offset: int, *, length: Optional[int] = None, seconds: Optional[float] = None) -> Iterator[RecordStream]:
+    def stream(
+        self, offset: int, *, length: Optional[int] = None, seconds: Optional[float] = None
+    ) -> contextlib.AbstractContextManager[RecordStream]:
         """Opens the record that begins at an offset, as `get` does, to be read in pieces.
 
         It needn't be read to its end. If it is, and the archive is damaged in it, the fault is raised at the end.
         A record of up to 1 MB is read at once. Of a longer one the program unpacks the member to its end, however much
         follows the record. If it is silent for more than `seconds`, it is ended, and ReplyTooLate is raised.
         """
-        text = self._text_at(offset, length, _MOST_STREAMED)
-        if text is not None and usual_record(text) is not None:
-            yield RecordStream(*_parted(text))
-            return
-        with self._stream_by_program(offset, length, seconds) as record:
-            yield record
+        return self._stream(offset, length, False, seconds)
 
     @contextlib.contextmanager
-    def _stream_by_program(self, offset: int, length: Optional[int], seconds: Optional[float] = None) -> Iterator[RecordStream]:
+    def _stream(self, offset: int, length: Optional[int], is_listed: bool, seconds: Optional[float] = None) -> Iterator[RecordStream]:
+        text = self._text_at(offset, length, _MOST_STREAMED)
+        if text is not None and (is_listed or usual_record(text) is not None):
+            head, _, rest = text.partition(CLOSING)
+            yield RecordStream(head, io.BytesIO(rest))
+            return
         with running(*self._get(offset, length), seconds=seconds) as output:
             record = RecordStream.read(output)
             if record is not None:
@@ -187,18 +187,12 @@ class Archive:
 
     def verdict(self, offset: int) -> str:
         """Returns the verdict of `verify` on the record that begins at an offset, which alone is read whole."""
-        with running(*self._get(offset, None)) as record:
-            verdict = self._verdict_on(record)
-        if verdict is None:
-            raise Unreadable("the program has given no verdict")
-        return verdict
-
-    def _verdict_on(self, record: IO[bytes]) -> Optional[str]:
-        """Returns the verdict on a record that a program writes, or None if the record or the verdict isn't whole."""
-        with Process((self._program, "verify", _INPUT), record.fileno()) as process:
+        with running(*self._get(offset, None)) as record, Process((self._program, "verify", _INPUT), record.fileno()) as process:
             found = _VERDICT.fullmatch(process.stdout.read())
             is_whole = process.wait() in (0, FAULTY)
-        return found[1].decode() if found and is_whole else None
+        if found is None or not is_whole:
+            raise Unreadable("the program has given no verdict")
+        return found[1].decode()
 
     def _get(self, offset: int, length: Optional[int]) -> tuple[str, ...]:
         """Returns the command that writes a record.
@@ -252,11 +246,6 @@ class Archive:
             replaced = Read("Read", self.path)
             replaced.advice = "another file has taken its place while it was read"
             raise replaced
-
-    def _record_by_program(self, offset: int, length: Optional[int] = None) -> Record:
-        with running(*self._get(offset, length)) as output:
-            text = output.read()
-        return Record.read(text, offset, length)
 
     def _opened(self) -> IO[bytes]:
         try:
@@ -340,9 +329,3 @@ def _first_bytes(path: str) -> Optional[bytes]:
             unread = Read("Read", path)
             unread.reason = error.strerror or ""
             raise unread from error
-
-
-def _parted(text: bytes) -> tuple[bytes, IO[bytes]]:
-    """Returns the head of a record without the empty line, and what follows it to be read."""
-    head, _, rest = text.partition(CLOSING)
-    return head, io.BytesIO(rest)

@@ -126,7 +126,12 @@ def print_archive(file: str, archive: Archive, program: str, style: Style, outpu
     """Prints the records of an archive, and the fault of a damaged one. Raises a fault that has no offset."""
     status, found, advice = 0, set[Verdict](), ""
     try:
-        print_records(archive, style, output, found)
+        with contextlib.closing(check_archive(archive)) as records:
+            for record in records:
+                verdicts = {record.block, record.payload}
+                found |= verdicts
+                if Verdict.DIFFERS in verdicts or not style.is_quiet:
+                    output.write(style.record(record))
     except Fault as error:
         if error.offset is None:
             raise
@@ -136,16 +141,6 @@ def print_archive(file: str, archive: Archive, program: str, style: Style, outpu
         report(NAME, f"{printable(file)}: {advice or 'no digest was compared'}")
         return max(status, FAULTY)
     return max(status, FAULTY) if Verdict.DIFFERS in found else status
-
-
-def print_records(archive: Archive, style: Style, output: BinaryIO, found: set[Verdict]) -> None:
-    """Prints the records of an archive, and adds their verdicts to those that were found."""
-    with contextlib.closing(check_archive(archive)) as records:
-        for record in records:
-            verdicts = {record.block, record.payload}
-            found |= verdicts
-            if Verdict.DIFFERS in verdicts or not style.is_quiet:
-                output.write(style.record(record))
 
 
 class Run:
