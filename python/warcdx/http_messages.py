@@ -11,7 +11,7 @@ from .codings import UNLIMITED, Decoder, Limits, Unreadable
 from .errors import expect_type
 from .iterators import Again
 
-HEAD_LIMIT = 1 << 20  # bytes of a head
+HEAD_LIMIT = 1 << 20  # bytes of a head, of HTTP or of a record
 _MOST_HELD = 16  # pieces of a body that are read ahead
 _BLANKS = (" ", "\t")
 _LINE_BREAK = re.compile(r"\r?\n")

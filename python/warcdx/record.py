@@ -10,14 +10,13 @@ from typing import IO, Optional, Union
 
 from .codings import PIECE, UNLIMITED, Limits, Unreadable
 from .errors import expect_type
-from .http_messages import Fields, HttpHead, Message, WithFields, field_of, unfolded
+from .http_messages import HEAD_LIMIT, Fields, HttpHead, Message, WithFields, field_of, unfolded
 from .iterators import Again
 
 __all__ = ["Head", "HttpHead", "Record", "RecordStream", "Unreadable", "payload"]
 
 CLOSING = b"\r\n\r\n"
 HTTP_TYPE = "application/http"
-HEAD_LIMIT = 1_048_576  # bytes of a record's head
 _LENGTH = re.compile("[0-9]{1,19}")
 _DATE = re.compile(r"([0-9-]{10}T[0-9:]{8})(?:\.([0-9]{1,9}))?Z")
 

@@ -118,7 +118,8 @@ class Store:
 
     @property
     def noted(self) -> Noted:
-        return Noted(*self._ask("SELECT * FROM settings")[0])
+        ((folder, recursive, types, *others),) = self._ask("SELECT * FROM settings")
+        return Noted(Settings(folder, bool(recursive), types), *others)
 
     def archives(self) -> dict[str, Archive]:
         """Returns the archives that were indexed, by their names."""

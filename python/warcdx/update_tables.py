@@ -100,18 +100,12 @@ class Noted(NamedTuple):
     `last` is the largest number that a run was given, `state` the number of the last state, and `changed` that of the first one with its runs.
     """
 
-    folder: str
-    recursive: int
-    types: str
+    settings: Settings
     token: str
     last: int
     state: int
     changed: int
     summary: str
-
-    @property
-    def settings(self) -> Settings:
-        return Settings(self.folder, bool(self.recursive), self.types)
 
 
 class Archive(NamedTuple):

@@ -87,17 +87,11 @@ def usual_record(text: bytes, offset: Optional[int] = None, length: Optional[int
 
     `offset` and `length` are where it is in its file.
     """
-    found = _usual_parts(text)
-    return Record(*found, offset, length) if found else None
-
-
-def _usual_parts(text: bytes) -> Optional[tuple[Fields, bytes]]:
-    """Returns the fields and the block of the record that a text is, or None."""
     head = usual_head(text)
     if head is None or not text.endswith(CLOSING):
         return None
-    fields, size, length = head
-    return (fields, text[size : -len(CLOSING)]) if size + length + len(CLOSING) == len(text) else None
+    fields, start, size = head
+    return Record(fields, text[start : -len(CLOSING)], offset, length) if start + size + len(CLOSING) == len(text) else None
 
 
 class NotUsual(Exception):
