@@ -1,7 +1,6 @@
 """A `warcdx serve` that is kept: each query is a line, and its reply ends with the line `.`."""
 import contextlib
 import json
-import math
 import os
 import re
 import select
@@ -12,6 +11,7 @@ from typing import IO, NamedTuple, Optional
 from .errors import Error, Fault, ProgramEnded, ProgramError, Refused, ReplyTooLate, ReplyTooLong
 from .program import PIPE, Process
 from .reported import fault, refused
+from .streams import is_ready
 
 PATIENCE = 10  # seconds for the program to end
 PAUSE = 0.01  # seconds between two looks whether it has
@@ -198,16 +198,11 @@ def _limit(seconds: Optional[float]) -> Optional[float]:
     return None if seconds is None else time.monotonic() + seconds
 
 
-def _is_ready(pipe: IO[bytes], event: int, limit: Optional[float], most: float = math.inf) -> bool:
-    """Waits until a pipe can be read or written, or has ended, or for the `most` seconds.
-
-    Returns whether it can. Raises ReplyTooLate after the moment `limit`.
-    """
-    poll = select.poll()
-    poll.register(pipe, event)
-    left = math.inf if limit is None else max(limit - time.monotonic(), 0)
-    seconds = min(left, most)
-    if poll.poll(None if seconds == math.inf else seconds * 1000):
+def _is_ready(pipe: IO[bytes], event: int, limit: Optional[float], most: Optional[float] = None) -> bool:
+    """Waits as `is_ready` does, for `most` seconds. Raises ReplyTooLate after the moment `limit`."""
+    left = None if limit is None else max(limit - time.monotonic(), 0)
+    seconds = min((each for each in (left, most) if each is not None), default=None)
+    if is_ready(pipe, event, seconds):
         return True
     if seconds == left:
         raise ReplyTooLate("the reply took too long")

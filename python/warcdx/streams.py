@@ -7,7 +7,7 @@ import os
 import select
 import sys
 from collections.abc import Callable
-from typing import IO, cast
+from typing import IO, Optional, cast
 
 _BUFFER = 1 << 16  # bytes
 
@@ -36,23 +36,23 @@ class _Standard(io.RawIOBase):
             try:
                 return os.readv(0, [room])
             except BlockingIOError:
-                _wait_for(0, select.POLLIN)
+                is_ready(0, select.POLLIN)
 
     def write(self, data: "bytes | bytearray | memoryview") -> int:  # type: ignore[override]
         while True:
             try:
                 return os.write(1, data)
             except BlockingIOError:
-                _wait_for(1, select.POLLOUT)
+                is_ready(1, select.POLLOUT)
             except OSError as error:
                 raise OutputError(error.errno, error.strerror) from None
 
 
-def _wait_for(descriptor: int, event: int) -> None:
-    """Waits until a file can be read or written, or has ended."""
+def is_ready(file: "int | IO[bytes]", event: int, seconds: Optional[float] = None) -> bool:
+    """Waits until a file can be read or written, or has ended, or for these seconds, and returns whether it can."""
     poll = select.poll()
-    poll.register(descriptor, event)
-    poll.poll()
+    poll.register(file, event)
+    return bool(poll.poll(None if seconds is None else seconds * 1000))
 
 
 class _StandardError(io.RawIOBase):
@@ -100,7 +100,7 @@ def write_error(data: "bytes | bytearray | memoryview") -> bool:
             try:
                 data = data[os.write(2, data) :]
             except BlockingIOError:
-                _wait_for(2, select.POLLOUT)
+                is_ready(2, select.POLLOUT)
     return not data
 
 
@@ -161,16 +161,14 @@ class Watched(io.RawIOBase):
     """The output of a program. Each time that nothing has come for some seconds, `look` is called, which may raise an error."""
 
     def __init__(self, pipe: IO[bytes], seconds: float, look: Callable[[], None]) -> None:
-        self._number = pipe.fileno()
+        self._pipe = pipe
         self._seconds = seconds
         self._look = look
-        self._poll = select.poll()
-        self._poll.register(self._number, select.POLLIN)
 
     def readable(self) -> bool:
         return True
 
     def readinto(self, room: "bytearray | memoryview") -> int:  # type: ignore[override]
-        while not self._poll.poll(self._seconds * 1000):
+        while not is_ready(self._pipe, select.POLLIN, self._seconds):
             self._look()
-        return os.readv(self._number, [room])
+        return os.readv(self._pipe.fileno(), [room])
