@@ -15,7 +15,7 @@ from unittest import mock
 from warcdx import states
 from warcdx.progress import Silent
 from warcdx.update import Merging, Removal, Update
-from warcdx.update_reports import Outcome, Said
+from warcdx.update_reports import Outcome
 from warcdx.update_store import Store
 from warcdx.update_tables import Settings
 from warcdx.update_workers import Threads
@@ -131,14 +131,9 @@ class FirstState(Case):
         (self.folder / "archives").mkdir()
         store, outcomes = Store(str(self.folder / "all.d")), list[Outcome]()
         update = Update(Settings(str(self.folder / "archives"), False, "response"), store, None, PROGRAM, Merging(8, False), Silent())
-
-        def say(outcome: Outcome) -> Said:
-            outcomes.append(outcome)
-            return Said(0, [])
-
-        with mock.patch.object(states, "show", side_effect=OSError(errno.ENOSPC, "No space left on device")):
-            update.run(Removal(0, False), Threads(1), say)
-        update.run(Removal(0, False), Threads(1), say)
+        for fault in (OSError(errno.ENOSPC, "No space left on device"), None):
+            with mock.patch.object(states, "show", side_effect=fault, wraps=states.show), update.done(Removal(0, False), Threads(1)) as outcome:
+                outcomes.append(outcome)
         self.assertEqual([("No space left on device", False), (None, True)], [(outcome.failure, outcome.is_there) for outcome in outcomes])
 
 

@@ -1,19 +1,20 @@
 """Brings the index of a folder of archives up to date."""
+import contextlib
 import datetime
 import itertools
 import json
 import os
 from collections import defaultdict
-from collections.abc import Callable, Iterable, Iterator, Mapping, Sequence
+from collections.abc import Iterable, Iterator, Mapping, Sequence
 from typing import Any, NamedTuple, Optional
 
 from .progress import Silent
 from .states import MOST_RUNS, shown
 from .update_archives import Found, FoundArchive, find_archives
 from .update_outputs import Single
-from .update_reports import FAILED, GONE, Action, Outcome, Report, Said, damage_of, reason_of
+from .update_reports import FAILED, GONE, Action, Outcome, Report, damage_of, reason_of
 from .update_store import Store
-from .update_tables import Archive, CannotUpdate, Merged, Run, Settings, text_of
+from .update_tables import Archive, CannotUpdate, Merged, Run, Settings
 from .update_tasks import Failed, Indexed, Written, filter_run, index_archives, merge_runs
 from .update_workers import Task, Workers
 
@@ -88,10 +89,11 @@ class Update:
         self._progress = progress
         self._archives: dict[str, Archive] = {}  # those whose runs are whole
 
-    def run(self, removal: Removal, workers: Workers, say: Callable[[Outcome], Said]) -> int:
-        """Indexes what is new, makes the index of all, and says what was done. The faults that were said are known to the next run.
+    @contextlib.contextmanager
+    def done(self, removal: Removal, workers: Workers) -> Iterator[Outcome]:
+        """Indexes what is new, makes the index of all, and yields what was done. No other process updates it before the end.
 
-        Returns the exit status. Raises CannotUpdate, Failed or OSError if nothing was indexed.
+        Raises CannotUpdate, Failed or OSError if nothing was indexed.
         """
         os.scandir(self._settings.folder).close()  # so that nothing is made for a folder that can't be read
         with self._store.locked(self._settings):
@@ -99,9 +101,7 @@ class Update:
                 self._single.begin()
             with workers:
                 outcome = self._run_alone(removal, workers)
-            said = say(outcome)
-            self._store.remember({text_of(each.archive): each.message for each in said.faults if each.is_lasting})
-        return said.status
+            yield outcome
 
     def plan(self, removal: Removal) -> tuple[Plan, Found]:
         """Returns what is to be done. Raises OSError if the folder of archives can't be read."""

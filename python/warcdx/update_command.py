@@ -36,7 +36,6 @@ Exit status:
      another process updates it
 """
 import argparse
-import functools
 import json
 import os
 import re
@@ -52,9 +51,9 @@ from .program import PACKED, find_packed_program
 from .progress import Lines, Silent, bar_on_terminal
 from .update import Merging, Removal, Update
 from .update_outputs import Single
-from .update_reports import Action, Outcome, Report, Said
+from .update_reports import Action, Outcome, Report
 from .update_store import Store
-from .update_tables import CannotUpdate, Settings
+from .update_tables import CannotUpdate, Settings, text_of
 from .update_tasks import Failed
 from .update_workers import Cluster, Threads, Workers
 
@@ -161,7 +160,10 @@ def update(given: argparse.Namespace, output: BinaryIO) -> int:
             print_plan(given, work, output)
         return 0
     workers: Workers = Cluster(given.scheduler) if given.scheduler else Threads(given.jobs)
-    return work.run(given.remove, workers, functools.partial(say, given, output))
+    with work.done(given.remove, workers) as outcome:
+        status, said = say(given, output, outcome)
+        store.remember({text_of(fault.archive): fault.message for fault in said if fault.is_lasting})
+    return status
 
 
 def expect_usable(name: str, settings: Settings, store: Store) -> None:
@@ -200,15 +202,15 @@ def planned_line(word: str, archive: str, is_json: bool) -> bytes:
     return text.encode() + b"\n"
 
 
-def say(given: argparse.Namespace, output: BinaryIO, outcome: Outcome) -> Said:
-    """Reports the faults that are to be said, and what was done. A fault that standard error doesn't take isn't said."""
+def say(given: argparse.Namespace, output: BinaryIO, outcome: Outcome) -> tuple[int, list[Report]]:
+    """Reports what was done. Returns the exit status, and the faults that were said now or before: standard error has taken them."""
     if given.json:
         output.writelines(json.dumps(each.values()).encode() + b"\n" for each in outcome.reports)
         output.flush()
     faults = outcome.faults if given.all_faults else [each for each in outcome.faults if not outcome.is_known(each)]
     lost = {each.archive for each in faults if not report(NAME, line_of(each))}
     status = say_result(given, outcome, faults)
-    return Said(status, [each for each in outcome.faults if each.archive not in lost])
+    return status, [each for each in outcome.faults if each.archive not in lost]
 
 
 def line_of(fault: Report) -> str:
