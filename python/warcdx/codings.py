@@ -57,7 +57,7 @@ class Decoder:
         expect_type("limits", limits, Limits, "a Limits, such as Limits(size=10_000_000)")
         if len(names) > MOST_CODINGS:
             raise Unreadable(f"the body has more than {MOST_CODINGS} codings")
-        self._codings = [_coding(name) for name in names]
+        self._codings = [_KINDS.get(name, _Coding)(name) for name in names]
         self._left = limits.size
         self._end = None if limits.seconds is None else time.monotonic() + limits.seconds
 
@@ -127,13 +127,6 @@ class _Coding:
 class _Foreign(_Coding):
     def _begins(self, first: bytes, is_end: bool) -> Optional[bool]:
         return _starts(first, FOREIGN[self.name], is_end)
-
-
-class _Missing(_Coding):
-    """Brotli without its module. Whether a body has it can't be known."""
-
-    def _begins(self, first: bytes, is_end: bool) -> Optional[bool]:
-        raise Unreadable(f"the coding {self.name!r} needs the module brotli (Debian's package python3-brotli)")
 
 
 class _Chunks(_Coding):
@@ -218,7 +211,18 @@ class _Packed(_Coding):
         raise NotImplementedError
 
     def _begins(self, first: bytes, is_end: bool) -> Optional[bool]:
-        return _unpacks(self._start(), first, is_end)
+        """A body of at most _TRIED bytes is one whole text, and a longer one is of a text that goes on."""
+        text, size = self._start(), 0
+        if len(first) <= _TRIED and not is_end:
+            return None
+        try:
+            for piece in _unpacked(text, first[:_TRIED]):
+                size += len(piece)
+                if size > PIECE:
+                    return True  # so far no other bytes come
+        except Unreadable:
+            return False
+        return text.eof == (len(first) <= _TRIED) and not text.unused_data
 
     def _undone(self, body: Iterator[bytes]) -> Iterator[bytes]:
         text, is_left_out = self._start(), False
@@ -250,12 +254,12 @@ class _Gzip(_Packed):
 
 
 class _Brotli(_Packed):
-    def __init__(self, name: str, module: Any) -> None:
-        super().__init__(name)
-        self._module = module
-
     def _start(self) -> _Text:
-        return _BrotliText(self._module)
+        try:
+            import brotli
+        except ImportError:  # whether a body has the coding can't be known
+            raise Unreadable(f"the coding {self.name!r} needs the module brotli (Debian's package python3-brotli)") from None
+        return _BrotliText(brotli)
 
     def _follows(self, packed: bytes) -> bool:
         raise Unreadable("bytes follow the compressed body")  # as the module says if the end comes with them
@@ -282,24 +286,6 @@ def _starts(first: bytes, start: bytes, is_end: bool) -> Optional[bool]:
     return None if first != start and start.startswith(first) and not is_end else first.startswith(start)
 
 
-def _unpacks(text: _Text, first: bytes, is_end: bool) -> Optional[bool]:
-    """Returns whether the first bytes of a body are a text, or None if more have to come.
-
-    A body of at most _TRIED bytes is one whole text, and a longer one is of a text that goes on.
-    """
-    if len(first) <= _TRIED and not is_end:
-        return None
-    size = 0
-    try:
-        for piece in _unpacked(text, first[:_TRIED]):
-            size += len(piece)
-            if size > PIECE:
-                return True  # so far no other bytes come
-    except Unreadable:
-        return False
-    return text.eof == (len(first) <= _TRIED) and not text.unused_data
-
-
 def _unpacked(text: _Text, data: bytes) -> Iterator[bytes]:
     while not text.eof:
         try:
@@ -313,12 +299,11 @@ def _unpacked(text: _Text, data: bytes) -> Iterator[bytes]:
             return
 
 
-def _coding(name: str) -> _Coding:
-    if name == "br":
-        try:
-            import brotli
-        except ImportError:
-            return _Missing(name)
-        return _Brotli(name, brotli)
-    kinds = {"chunked": _Chunks, "gzip": _Gzip, "x-gzip": _Gzip, "deflate": _Deflate, **dict.fromkeys(FOREIGN, _Foreign)}
-    return kinds.get(name, _Coding)(name)
+_KINDS: dict[str, type[_Coding]] = {
+    "br": _Brotli,
+    "chunked": _Chunks,
+    "deflate": _Deflate,
+    "gzip": _Gzip,
+    "x-gzip": _Gzip,
+    **dict.fromkeys(FOREIGN, _Foreign),
+}
