@@ -195,13 +195,13 @@ class TaskTest(unittest.TestCase):
         self.addCleanup(file.close)
         names = ['é "/x.warc', 'é "/y.warc']
         lines = _Lines(file, names)
-        lines.write(lines_of(range(2), "x.warc") + lines_of(range(1), "y.warc"))
+        lines.write((lines_of(range(2), "x.warc") + lines_of(range(1), "y.warc")).splitlines(keepends=True))
         lines.end()
         self.assertEqual(lines.captures, dict(zip(names, (2, 1))))
         self.assertEqual([json.loads(line.split(b" ", 2)[2])["filename"] for line in self.read(file)], [names[0], names[0], names[1]])
         for other in (lines_of(range(1), "z.warc"), b"com,a)/ 20160101000000 {}\n"):
             with self.assertRaises(Failed):
-                lines.write(other)
+                lines.write([other])
                 lines.end()
 
     def read(self, file: IO[bytes]) -> list[bytes]:
@@ -230,19 +230,20 @@ class TaskTest(unittest.TestCase):
             lines = _Lines(open(os.devnull, "wb"))
             self.addCleanup(lines._file.close)
             for number in range(1000):
-                lines.write(lines_of(range(number, number + 1), kind="x" * 300 if number % 2 else str(number)))
+                lines.write([lines_of(range(number, number + 1), kind="x" * 300 if number % 2 else str(number))])
             *_, captures, counts = lines.end()
         self.assertEqual(captures, 1000)
         self.assertLessEqual(len(counts["hosts"]), 100)
         self.assertEqual(counts["types"]["x" * 256], 500)
         self.assertEqual(counts["statuses"], {"200": 1000})
 
-    def test_pieces_end_with_lines(self) -> None:
+    def test_pieces_have_whole_lines(self) -> None:
         text = b"a" * (3 << 20) + b"\nb\n\nc\n"
         pieces = list(_whole_lines(io.BytesIO(text)))
-        self.assertEqual(b"".join(pieces), text)
-        self.assertTrue(all(piece.endswith(b"\n") for piece in pieces))
+        self.assertEqual(text.splitlines(keepends=True), [line for piece in pieces for line in piece])
         self.assertEqual(list(_whole_lines(io.BytesIO(b""))), [])
+        with self.assertRaises(Failed):
+            list(_whole_lines(io.BytesIO(text + b"d")))
 
     def test_what_the_program_says(self) -> None:
         def causes(said: str, *names: str) -> Iterator[str]:

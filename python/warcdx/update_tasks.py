@@ -34,7 +34,6 @@ _REASON = r"\n  (.*) \(os error [0-9]+\)(?=\n|\Z)"  # the second line of a messa
 _FRONT = operator.itemgetter(slice(256))  # bytes of a value
 _PIECE = 1 << 20  # bytes
 _LARGEST = (1 << 63) - 1  # that SQLite has
-_ROOM = 1 << 16  # bytes, more than the block of a file that the program has begun
 _SILENCE = 5  # seconds without output of the program, and then its archives are checked
 
 Start = Callable[..., "subprocess.Popen[bytes]"]
@@ -77,9 +76,8 @@ def index_archives(
     states = find_states()
     with _new(output) as file:
         lines = _Lines(file, names)
-        with _running((program, "index", *words, *(f"./{name}" for name in names)), folder, start) as (process, said):
-            assert process.stdout is not None
-            for piece in _whole_lines(io.BufferedReader(Watched(process.stdout, _SILENCE, expect_no_change))):
+        with _running((program, "index", *words, *(f"./{name}" for name in names)), folder, start) as (process, pipe, said):
+            for piece in _whole_lines(io.BufferedReader(Watched(pipe, _SILENCE, expect_no_change))):
                 lines.write(piece)
             status, causes, text = _wait(process), _causes_of(said, names), _text_of(said)
         if status not in (0, FAULT) or status and not any(causes.values()):
@@ -96,7 +94,7 @@ def filter_run(folder: str, run: str, names: Sequence[str], output: str, start: 
     with open(os.path.join(folder, run), "rb") as file, _new(output) as new:
         lines = _Lines(new)
         for piece in _whole_lines(file):
-            lines.write(b"".join(line for line in piece.splitlines(keepends=True) if line[line.rfind(_NAME) + len(_NAME) : -2] in kept))
+            lines.write([line for line in piece if line[line.rfind(_NAME) + len(_NAME) : -2] in kept])
         return lines.end()
 
 
@@ -108,24 +106,26 @@ def merge_runs(program: str, folder: str, files: Sequence[str], output: str, sta
     files = list(files)
     with contextlib.ExitStack() as stack:
         while len(files) > MOST_MERGED:
-            path, _ = _merge((program, "merge", *files[:MOST_MERGED]), folder, output, start)
+            path, *_ = _merge((program, "merge", *files[:MOST_MERGED]), folder, output, start)
             stack.callback(os.remove, path)
             files[:MOST_MERGED] = [path]
-        path, size = _merge((program, "merge", *files), folder, output, start)
-    return path, size, crc_32_of(path)
+        merged = _merge((program, "merge", *files), folder, output, start)
+    return merged
 
 
-def _merge(command: Sequence[str], folder: str, output: str, start: Start) -> tuple[str, int]:
-    """Merges indexes, or none, into a new file, and returns its path and size."""
+def _merge(command: Sequence[str], folder: str, output: str, start: Start) -> tuple[str, int, int]:
+    """Merges indexes, or none, into a new file, and returns its path, its size and its CRC-32."""
+    crc_32 = 0
     with _new(output) as file:
         if len(command) > 2:
-            with _running(command, folder, start, file) as (process, said):
+            with _running(command, folder, start) as (process, lines, said):
+                while piece := lines.read(_PIECE):
+                    file.write(piece)
+                    crc_32 = zlib.crc32(piece, crc_32)
                 if status := _wait(process):
-                    file.seek(0, os.SEEK_END)
-                    file.write(bytes(_ROOM))  # raises the error of a file that takes no more bytes, which the program doesn't print
-                    file.flush()
                     raise Failed(_text_of(said) or f"{command[0]} has ended with status {status}")
-        return file.name, file.seek(0, os.SEEK_END)
+        size = file.tell()
+    return file.name, size, crc_32
 
 
 def crc_32_of(path: str) -> int:
@@ -148,24 +148,23 @@ class _Lines:
         self._folder = _json_of(f"{os.path.dirname(names[0])}/")[:-1] if names and "/" in names[0] else b""
         self._counts: dict[str, Counter[bytes]] = {field: Counter() for field in FIELDS}
 
-    def write(self, lines: bytes) -> None:
+    def write(self, lines: Sequence[bytes]) -> None:
         """Writes lines in which the file name of an archive is without the path of its folder."""
-        if not lines:
-            return
-        found, number = _CAPTURE.findall(lines), lines.count(b"\n")
-        if len(found) != number or lines.count(_NAME) != number:
+        text = b"".join(lines)
+        found = _CAPTURE.findall(text)
+        if len(found) != len(lines) or text.count(_NAME) != len(lines):
             raise Failed("the program has written a line that isn't one of an index")
         if self._folder:
-            lines = lines.replace(_NAME + b'"', _NAME + self._folder)
-        tails = self._tails.items()
-        ends = Counter[bytes](line[line.rfind(_NAME) :] for line in lines.splitlines(keepends=True) if len(tails) > 1)
-        for name, tail in tails:
-            self.captures[name] += ends[tail] if ends else lines.count(tail)
-        self._count(*zip(*found))
-        self._file.write(lines)
-        self._size += len(lines)
-        self._crc_32 = zlib.crc32(lines, self._crc_32)
-        self._lines += number
+            text = text.replace(_NAME + b'"', _NAME + self._folder)
+        ends = Counter[bytes](line[line.rfind(_NAME) :] for line in text.splitlines(keepends=True) if len(self._tails) > 1)
+        for name, tail in self._tails.items():
+            self.captures[name] += ends[tail] if ends else text.count(tail)
+        if found:
+            self._count(*zip(*found))
+        self._file.write(text)
+        self._size += len(text)
+        self._crc_32 = zlib.crc32(text, self._crc_32)
+        self._lines += len(lines)
 
     def end(self) -> Written:
         """Returns what was written. Raises Failed if there are lines of other archives."""
@@ -217,21 +216,20 @@ def _new(front: str) -> contextlib.AbstractContextManager[IO[bytes]]:
 
 
 @contextlib.contextmanager
-def _running(
-    command: Sequence[str], folder: str, start: Start, output: "int | IO[bytes]" = subprocess.PIPE
-) -> Iterator[tuple["subprocess.Popen[bytes]", IO[bytes]]]:
-    """Runs a program in a folder, and yields it and its standard error. It has ended at the end.
+def _running(command: Sequence[str], folder: str, start: Start) -> Iterator[tuple["subprocess.Popen[bytes]", IO[bytes], IO[bytes]]]:
+    """Runs a program in a folder, and yields it, its output and its standard error. It has ended at the end.
 
     What it says is held in memory: on a full disk the later ones of its messages would be lost.
     """
     with open(os.memfd_create("said"), "w+b") as said:
         try:
-            process = start(command, cwd=folder, stdin=subprocess.DEVNULL, stdout=output, stderr=said)
+            process = start(command, cwd=folder, stdin=subprocess.DEVNULL, stdout=subprocess.PIPE, stderr=said)
         except OSError as error:
             raise Failed(": ".join(filter(None, (error.filename, error.strerror)))) from None
         with process:
+            assert process.stdout is not None
             try:
-                yield process, said
+                yield process, process.stdout, said
             finally:
                 process.kill()
 
@@ -249,18 +247,12 @@ def _wait(process: "subprocess.Popen[bytes]") -> int:
     return process.returncode
 
 
-def _whole_lines(file: IO[bytes]) -> Iterator[bytes]:
-    """Yields what a program writes or a file has, in pieces that end with a line."""
-    rest = b""
-    while piece := file.read(_PIECE):
-        lines, end, after = piece.rpartition(b"\n")
-        if end:
-            yield rest + lines + end
-            rest = after
-        else:
-            rest += piece
-    if rest:
-        raise Failed("the last line isn't whole")
+def _whole_lines(file: IO[bytes]) -> Iterator[list[bytes]]:
+    """Yields the lines of what a program writes or a file has, many at a time."""
+    while lines := file.readlines(_PIECE):
+        if not lines[-1].endswith(b"\n"):
+            raise Failed("the last line isn't whole")
+        yield lines
 
 
 def _causes_of(said: IO[bytes], names: Sequence[str]) -> dict[str, str]:
