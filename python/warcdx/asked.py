@@ -76,7 +76,9 @@ class Asked(NamedTuple):
         """
         others = dict(selection)
         query, match, since, until, limit = (others.pop(name, None) for name in ("query", "match", "since", "until", "limit"))
-        _check_names(others)
+        for name in others:
+            if name.rstrip("_") not in NAMES:
+                raise refused("Unknown", name)
         for name, text in (("url", url), ("query", query)):
             expect_type(name, text, (str, type(None)), "a text")
         given: dict[str, Value] = {}
@@ -102,12 +104,6 @@ class Asked(NamedTuple):
             return cls(query, limit)
         left, rest = query.with_parameters(limit=limit).take_limit()
         return cls(rest, left)
-
-
-def _check_names(parameters: dict[str, Value]) -> None:
-    for name in parameters:
-        if name.rstrip("_") not in NAMES:
-            raise refused("Unknown", name)
 
 
 def parameter_of(cause: str, query: Query) -> Optional[str]:

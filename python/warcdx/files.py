@@ -11,11 +11,7 @@ Path = Union[str, os.PathLike[str]]
 
 def open_at_once(path: Path) -> io.FileIO:
     """Opens a file to be read, without waiting for who writes a pipe. Raises OSError or ValueError."""
-    return open(path, "rb", buffering=0, opener=_open_at_once)
-
-
-def _open_at_once(path: str, flags: int) -> int:
-    return os.open(path, flags | os.O_NONBLOCK)
+    return open(path, "rb", buffering=0, opener=lambda name, flags: os.open(name, flags | os.O_NONBLOCK))
 
 
 def is_regular(path: Path, size: Optional[int] = None) -> bool:

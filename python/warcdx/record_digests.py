@@ -130,11 +130,8 @@ def _wanted(head: Head, name: str) -> Union[Digest, Verdict]:
     field = head.field(name)
     if field is None:
         return Verdict.ABSENT
-    if name == PAYLOAD_DIGEST and _is_elsewhere(head):
+    # The payload of a revisit isn't in it, and of a segment not whole.
+    is_segment = head.kind == "continuation" or head.field("WARC-Segment-Number") is not None
+    if name == PAYLOAD_DIGEST and (head.kind == "revisit" or is_segment):
         return Verdict.ELSEWHERE
     return Digest.of(field) or Verdict.UNKNOWN
-
-
-def _is_elsewhere(head: Head) -> bool:
-    """Returns whether the payload of a record isn't in it, or not whole: of a revisit, or of a segment of a record."""
-    return head.kind in ("revisit", "continuation") or head.field("WARC-Segment-Number") is not None

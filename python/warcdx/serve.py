@@ -219,11 +219,12 @@ def is_whole(reply: "bytes | bytearray") -> bool:
 
 
 def text_of(reply: bytes, is_json: bool, indexes: tuple[str, ...]) -> bytes:
-    """Returns a page as the program writes it. Whether it is JSON decides what a fault follows."""
-    before, last = last_lines(reply)
+    """Returns a page as the program writes it, or raises the fault at its end. Whether it is JSON decides what a fault follows."""
+    start = reply.rfind(b"\n", 0, -1) + 1  # of the last line
+    before = reply[max(start - 2, 0) : start]
     is_after = bool(before) if is_json else before in (b"\n", b"\n\n")
-    if is_after and (found := fault_in(last, indexes)):
-        raise found
+    if is_after and (found := _FAULT.fullmatch(reply, start, len(reply) - 1)):
+        raise fault(found[1].decode(), indexes[int(found[2])], int(found[3]), int(found[2]))
     return reply
 
 
@@ -234,14 +235,3 @@ def refusal_of(reply: bytes) -> Optional[Refused]:
     """
     found = _REFUSED.fullmatch(reply)
     return refused(found[1].decode()) if found else None
-
-
-def last_lines(reply: bytes) -> tuple[bytes, bytes]:
-    """Returns the last two bytes before the last line, and the last line without its line feed."""
-    start = reply.rfind(b"\n", 0, -1) + 1
-    return reply[max(start - 2, 0) : start], reply[start:-1]
-
-
-def fault_in(line: bytes, indexes: tuple[str, ...]) -> Optional[Fault]:
-    found = _FAULT.fullmatch(line)
-    return fault(found[1].decode(), indexes[int(found[2])], int(found[3]), int(found[2])) if found else None

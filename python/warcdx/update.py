@@ -15,7 +15,7 @@ from .update_outputs import Single
 from .update_reports import FAILED, GONE, Action, Outcome, Report, damage_of, reason_of
 from .update_store import Store
 from .update_tables import Archive, CannotUpdate, Merged, Run, Settings
-from .update_tasks import Failed, Indexed, Written, filter_run, index_archives, merge_runs
+from .update_tasks import Failed, filter_run, index_archives, merge_runs
 from .update_workers import Task, Workers
 
 TRIES = 3  # of a task
@@ -190,15 +190,13 @@ class Update:
             try:
                 if isinstance(outcome, Exception):
                     raise outcome
-                self._add(numbers[task], *outcome)
+                written, indexed = outcome
+                self._store.add(numbers[task], written, indexed)
+                for name, state, cause, captures in indexed:
+                    self._archives[name] = Archive(state, cause, captures, numbers[task] if captures else None)
                 yield batches[task], None
             except Exception as error:  # a worker may raise any
                 yield batches[task], error
-
-    def _add(self, number: int, written: Written, indexed: Sequence[Indexed]) -> None:
-        self._store.add(number, written, indexed)
-        for name, state, cause, captures in indexed:
-            self._archives[name] = Archive(state, cause, captures, number if captures else None)
 
     def _members(self, plan: Plan, found: Found, reports: Iterable[Report]) -> dict[str, Any]:
         """Returns the members of a summary that aren't counts of captures."""

@@ -21,14 +21,6 @@ Outcomes = Iterator[tuple[int, Any]]  # the numbers of the arguments of a task, 
 _ENDING_WITH_STARTER = ("setpriv", "--pdeathsig", "KILL")  # in front of a program; some systems have a setpriv without this option
 
 
-def _runs(*command: str) -> bool:
-    """Returns whether a command succeeds."""
-    try:
-        return not subprocess.call(command, stdin=subprocess.DEVNULL, stdout=subprocess.DEVNULL, stderr=subprocess.DEVNULL)
-    except OSError:
-        return False
-
-
 class Threads(contextlib.ExitStack):
     """Threads of this process, each of which runs one program at a time. The programs end with it, also if it is killed."""
 
@@ -71,7 +63,12 @@ class Threads(contextlib.ExitStack):
 
         A function that subprocess calls in the new process would do the same, but makes a start slower the more memory this process has.
         """
-        return _ENDING_WITH_STARTER if _runs(*_ENDING_WITH_STARTER, "true") else ()
+        nothing = subprocess.DEVNULL
+        try:
+            status = subprocess.call((*_ENDING_WITH_STARTER, "true"), stdin=nothing, stdout=nothing, stderr=nothing)
+        except OSError:
+            return ()
+        return () if status else _ENDING_WITH_STARTER
 
     def _end(self) -> None:
         """Ends the programs that run, refuses others, and waits for the threads."""
