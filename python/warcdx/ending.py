@@ -31,12 +31,8 @@ def catch_signals() -> None:
 def _raise_ended(number: int, frame: Optional[FrameType]) -> None:
     for each in _SIGNALS:
         if signal.getsignal(each) is not signal.SIG_IGN:
-            signal.signal(each, _do_nothing)  # of a signal that has come already and is then ignored Python complains
+            signal.signal(each, lambda *_: None)  # of a signal that has come already and is then ignored Python complains
     raise Ended(number)
-
-
-def _do_nothing(number: int, frame: Optional[FrameType]) -> None:
-    pass
 
 
 def _end_in_finalizer(arguments: "sys.UnraisableHookArgs") -> None:

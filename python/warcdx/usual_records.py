@@ -6,6 +6,7 @@ all records of crawls pass it. Nothing here raises a fault. `None` says that the
 """
 import datetime
 import functools
+import io
 import itertools
 import os
 import re
@@ -121,25 +122,23 @@ def _checked(length: int, pieces: Iterator[bytes]) -> Iterator[bytes]:
         raise NotUsual
 
 
-class ArchiveFile:
+class ArchiveFile(io.FileIO):
     """An archive that is open to be read at any place. Raises OSError if it isn't a file, or can't be opened, or has no size.
 
     `size` is that of the file when it was opened, in bytes, and `identity` what no other file has. `end` is the offset up to which records were yielded, and
     `next` what follows the one that is read.
     """
 
-    _number = -1
-
     def __init__(self, path: str, may_be_packed: bool = True) -> None:
         if not stat.S_ISREG(os.stat(path).st_mode):  # to open a pipe would be seen by who writes it
             raise OSError("not a regular file")
-        self._number = os.open(path, os.O_RDONLY | os.O_CLOEXEC | os.O_NONBLOCK)  # a pipe may have taken its place
-        found = os.fstat(self._number)
+        super().__init__(path, opener=lambda name, flags: os.open(name, flags | os.O_NONBLOCK))  # a pipe may have taken its place
+        found = os.fstat(self.fileno())
         self.size, self.identity = found.st_size, (found.st_dev, found.st_ino)
         if not self.size or not stat.S_ISREG(found.st_mode):  # or the system can't give the size, as of a file in /proc
             self.close()
             raise OSError("not a regular file of a size")
-        self.is_packed = may_be_packed and os.pread(self._number, len(MAGIC), 0) == MAGIC
+        self.is_packed = may_be_packed and os.pread(self.fileno(), len(MAGIC), 0) == MAGIC
         self.end = 0
         self.next = 0  # the offset behind what was read of a record
         self._start = 0  # the offset of the bytes that are held
@@ -153,7 +152,7 @@ class ArchiveFile:
         if length is not None and length > most or not 0 <= offset <= self.size - (length or 1):
             return None
         if length is not None:  # nothing else is read
-            self._held, self._start = os.pread(self._number, length, offset), offset
+            self._held, self._start = os.pread(self.fileno(), length, offset), offset
         if not self.is_packed:
             return self._held if length == len(self._held) else None
         found = self._member(offset, most)
@@ -241,20 +240,6 @@ class ArchiveFile:
         """Holds `least` bytes or more from an offset on, if the file has them. Returns the index of the first one."""
         at = offset - self._start
         if not 0 <= at <= len(self._held) - least:
-            self._held = os.pread(self._number, max(least, _AHEAD), offset)
+            self._held = os.pread(self.fileno(), max(least, _AHEAD), offset)
             self._start, at = offset, 0
         return at
-
-    def close(self) -> None:
-        number, self._number = self._number, -1
-        if number >= 0:
-            os.close(number)
-
-    def __del__(self) -> None:
-        self.close()  # as after an interrupt before the block that closes it
-
-    def __enter__(self) -> "ArchiveFile":
-        return self
-
-    def __exit__(self, *error: object) -> None:
-        self.close()
