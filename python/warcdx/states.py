@@ -74,10 +74,7 @@ def files_of(index: Path) -> list[str]:
 
 def shown(folder: str) -> Optional[int]:
     """Returns the number of the state to which `current` leads. It is 0 if that isn't there, and None if `current` isn't a link to one."""
-    try:
-        found = _LINK.fullmatch(os.readlink(f"{folder}/{CURRENT}"))
-    except OSError:
-        return None
+    found = _LINK.fullmatch(_target_of(f"{folder}/{CURRENT}"))
     if found is None:
         return None
     return int(found[1]) if os.path.exists(f"{folder}/{CURRENT}") else 0
@@ -85,7 +82,15 @@ def shown(folder: str) -> Optional[int]:
 
 def is_link(path: str) -> bool:
     """Returns whether a path is a link that leads to a state, or led to one."""
-    return os.path.islink(path) and _LINK.fullmatch(os.readlink(path)) is not None
+    return _LINK.fullmatch(_target_of(path)) is not None
+
+
+def _target_of(path: str) -> str:
+    """Returns where a link leads, or an empty text for something else."""
+    try:
+        return os.readlink(path)
+    except OSError:
+        return ""
 
 
 def show(folder: str, number: int, runs: Sequence[Listed], summary: Mapping[str, Any]) -> None:
@@ -139,7 +144,7 @@ def _manifest_of(number: int, runs: Sequence[Listed]) -> dict[str, Any]:
 
 def _has_link(state: str, name: str) -> bool:
     """Returns whether the folder of a state has its link to a run."""
-    return os.path.islink(f"{state}/{name}") and os.readlink(f"{state}/{name}") == f"../../{RUNS}/{name}"
+    return _target_of(f"{state}/{name}") == f"../../{RUNS}/{name}"
 
 
 def remove_before(folder: str, number: int) -> None:
