@@ -16,12 +16,12 @@ def advice_on(fault: Fault, path: Path, program: str) -> str:
     if fault.advice or fault.offset is None or fault.offset > (_MOST if is_of_index else 0):
         return fault.advice
     words = ("check",) if is_of_index else ("get", "0")
-    return _advice_of(_error_of(program, *words, operand(path)))
+    return str(getattr(_error_of(program, *words, operand(path)), "advice", ""))
 
 
 def advice_on_query(text: str, program: str) -> str:
     """Returns why a query text is refused, or an empty text."""
-    return _advice_of(_error_of(program, "query", text, os.devnull))
+    return str(getattr(_error_of(program, "query", text, os.devnull), "advice", ""))
 
 
 def kind_of(path: Path, program: str) -> str:
@@ -29,15 +29,10 @@ def kind_of(path: Path, program: str) -> str:
     error = _error_of(program, "check", operand(path))
     if error is None:
         return "It is an index: warcdx-cdx to reads indexes."
-    said = _advice_of(error)
+    said = str(getattr(error, "advice", ""))
     if said.startswith("It is compressed by gzip"):
         return "It is compressed by gzip: zcat FILE | warcdx-cdx from reads a CDX file."
     return said if said.startswith("It ") else ""
-
-
-def _advice_of(error: Optional[Error]) -> str:
-    advice: str = getattr(error, "advice", "")
-    return advice
 
 
 def _error_of(program: str, *words: str) -> Optional[Error]:

@@ -216,8 +216,10 @@ class Update:
         if lost := sorted(self._store.archives().keys() - self._archives.keys()):
             raise CannotUpdate(f"{len(lost):,} archives can't be indexed anew whose runs are missing or damaged, such as {lost[0]!a}")
         for run in self._store.runs():
-            if run.left and run.left != run.captures:
-                self._rewrite(workers, run)
+            if run.left and run.left != run.captures:  # it has captures of archives that were removed or indexed anew
+                (number,) = self._store.reserve(1)
+                names, new = self._store.names_in(run), self._store.new(number)
+                self._store.replace(run, number, self._done(workers, filter_run, self._store.runs_folder, run.file, names, new))
         runs = self._store.runs()
         unused, used = [run for run in runs if not run.left], [run for run in runs if run.left]
         number = self._merging.number([run.size for run in used])
@@ -228,12 +230,6 @@ class Update:
             self._store.publish(merged, unused, {"made": now, **members})
         if self._single is not None and self._single.state() != self._store.noted.changed:
             self._single.take(*self._merged(workers, self._store.runs(), self._single.new))
-
-    def _rewrite(self, workers: Workers, run: Run) -> None:
-        """Makes a run in place of one that has captures of archives that were removed or indexed anew."""
-        (number,) = self._store.reserve(1)
-        names, new = self._store.names_in(run), self._store.new(number)
-        self._store.replace(run, number, self._done(workers, filter_run, self._store.runs_folder, run.file, names, new))
 
     def _merge(self, workers: Workers, runs: Sequence[Run]) -> Merged:
         (number,) = self._store.reserve(1)

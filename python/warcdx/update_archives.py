@@ -86,14 +86,8 @@ class Found(NamedTuple):
 
     def reason_for(self, name: str) -> Optional[str]:
         """Returns why an archive of this name can't be seen, or None if it isn't in a folder that can't be read."""
-        if not self.unreadable:
-            return None
-        end = name.find("/")
-        while end >= 0:
-            if (reason := self.unreadable.get(name[:end])) is not None:
-                return reason
-            end = name.find("/", end + 1)
-        return None
+        above = itertools.accumulate(name.split("/")[:-1], "{}/{}".format)
+        return next(filter(None, map(self.unreadable.get, above)), None)
 
 
 def find_archives(folder: str, recursive: bool, store: str, single: Optional[str] = None) -> Found:
@@ -108,7 +102,9 @@ def find_archives(folder: str, recursive: bool, store: str, single: Optional[str
         below = waiting.pop()
         is_counted = bool(below) and not recursive
         try:
-            entries = _entries_of(os.path.join(root, below) if below else root, left if is_counted else None)
+            with os.scandir(os.path.join(root, below) if below else root) as listed:
+                some = itertools.islice(listed, left if is_counted else None)
+                entries = [(entry, entry.is_dir(follow_symlinks=False)) for entry in some]
         except OSError as error:
             if not below:
                 raise
@@ -133,12 +129,6 @@ def find_archives(folder: str, recursive: bool, store: str, single: Optional[str
     found.passed.is_whole = left > 0
     found.archives.sort()
     return found
-
-
-def _entries_of(folder: str, most: Optional[int]) -> "list[tuple[os.DirEntry[str], bool]]":
-    """Returns the entries of a folder, or the first ones, and whether each is a folder."""
-    with os.scandir(folder) as entries:
-        return [(entry, entry.is_dir(follow_symlinks=False)) for entry in itertools.islice(entries, most)]
 
 
 def _is_same(entry: "os.DirEntry[str]", folder: Optional[os.stat_result]) -> bool:
