@@ -7,7 +7,7 @@ from urllib.parse import unquote_plus
 
 from .errors import expect_type, number_of
 from .fields import FIELDS
-from .query import Query, Texts, Value
+from .query import MOST_LIMIT, Query, Texts, Value
 from .reported import refused
 from .stamps import Moment, stamp_of
 
@@ -30,6 +30,7 @@ _ONLY = {
     "BadUrl": "url",
 }
 _STAMP = re.compile("[0-9]{1,14}")
+_LIMIT = re.compile("[0-9]{1,7}")
 
 
 class Selection(TypedDict, total=False):
@@ -81,29 +82,28 @@ class Asked(NamedTuple):
                 raise refused("Unknown", name)
         for name, text in (("url", url), ("query", query)):
             expect_type(name, text, (str, type(None)), "a text")
-        given: dict[str, Value] = {}
+        given: dict[str, Value] = {"url": url, "matchType": match}
         if url is query is match is None and not _TARGETS & others.keys():
             given = {"key": "", "matchType": "prefix"}
         elif url is not None and (not url or _QUERY_TEXT.match(url)):
-            query = url if query is None else f"{query}&{url}"
-        elif url is not None:
-            given["url"] = url
-        if match is not None:
-            given["matchType"] = match
-        if since is not None:
-            given["from"] = stamp_of("since", since)
-        if until is not None:
-            given["to"] = stamp_of("until", until)
+            given["url"], query = None, url if query is None else f"{query}&{url}"
+        for name, said, moment in (("from", "since", since), ("to", "until", until)):
+            if moment is not None:
+                given[name] = stamp_of(said, moment)
         return cls._with_limit(Query.of(query, {**given, **others}), limit)
 
     @classmethod
     def _with_limit(cls, query: Query, limit: Optional[int]) -> "Asked":
+        """Takes the limit out of a query, unless it is to be refused."""
         if limit is not None and not isinstance(limit, str):
             limit = number_of("limit", limit)
         if isinstance(limit, int) and limit > 0 and query.take("limit")[0] is None:
             return cls(query, limit)
-        left, rest = query.with_parameters(limit=limit).take_limit()
-        return cls(rest, left)
+        query = query.with_parameters(limit=limit)
+        value, rest = query.take("limit")
+        digits = unquote_plus(value or "")
+        is_good = _LIMIT.fullmatch(digits) and 1 <= int(digits) <= MOST_LIMIT and rest.take("limit")[0] is None
+        return cls(rest, int(digits)) if is_good else cls(query, None)
 
 
 def parameter_of(cause: str, query: Query) -> Optional[str]:
