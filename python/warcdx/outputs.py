@@ -11,14 +11,9 @@ from .streams import OutputError
 STANDARD = "-"  # the name of standard output, and of standard input
 
 
-@contextlib.contextmanager
-def output_of(path: Optional[str], standard: BinaryIO) -> Iterator[BinaryIO]:
-    """Yields what a command writes to: a new file, or standard output if none is named. Raises OSError."""
-    if path is None or path == STANDARD:
-        yield standard
-        return
-    with new_file(path) as file:
-        yield file
+def output_of(path: Optional[str], standard: BinaryIO) -> contextlib.AbstractContextManager[BinaryIO]:
+    """Opens what a command writes to: a new file, or standard output if none is named. Raises OSError."""
+    return contextlib.nullcontext(standard) if path is None or path == STANDARD else new_file(path)
 
 
 @contextlib.contextmanager
