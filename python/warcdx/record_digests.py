@@ -4,12 +4,11 @@ import contextlib
 import enum
 import hashlib
 import re
-from collections.abc import Generator, Iterator
+from collections.abc import Iterator
 from typing import TYPE_CHECKING, NamedTuple, Optional, Union
 
-from .codings import Limits, Unreadable
+from .codings import Decoder, Limits, Unreadable
 from .http_messages import Message
-from .iterators import Again
 from .record import Head
 
 if TYPE_CHECKING:
@@ -84,14 +83,25 @@ class Verdicts(NamedTuple):
 
 
 def verdicts_of(head: Head, length: int, block: Iterator[bytes]) -> Verdicts:
-    """Returns the verdicts on the digests of a record, whose whole block is given in pieces, and has this length in bytes."""
+    """Returns the verdicts on the digests of a record, whose block is given in pieces. Raises Unreadable if it hasn't this length in bytes."""
     block_digest, payload_digest = _wanted(head, BLOCK_DIGEST), _wanted(head, PAYLOAD_DIGEST)
-    found = block_digest.start() if isinstance(block_digest, Digest) else None
-    pieces = Again(_hashed(block, found))  # so that an error of the block isn't taken for one of its codings
+    found, left = block_digest.start() if isinstance(block_digest, Digest) else None, length
+
+    def counted() -> Iterator[bytes]:
+        nonlocal left
+        for piece in block:
+            left -= len(piece)
+            if found is not None:
+                found.update(piece)
+            yield piece
+
+    pieces = counted()
     if isinstance(payload_digest, Digest):
         payload_digest = _verdict_on_payload(payload_digest, Message(pieces, head.is_http), head.is_http, length)
     for _ in pieces:
         pass
+    if left:  # an error of the block may have been taken for one of its codings
+        raise Unreadable("the archive ends in the record")
     if isinstance(block_digest, Digest):
         is_empty = head.kind == "revisit" and block_digest.is_of(block_digest.start())  # so writes GNU Wget
         block_digest = Verdict.SAME if block_digest.is_of(found) else Verdict.EMPTY if is_empty else Verdict.DIFFERS
@@ -102,13 +112,13 @@ def _verdict_on_payload(digest: Digest, message: Message, is_http: bool, length:
     """Compares a digest with a payload: of HTTP with the body as it is stored, and without its transfer codings."""
     stored, undone, is_same = digest.start(), digest.start(), False
     codings = message.transfer_codings
-    message.body = _hashed(message.body, stored)
+    body = _hashed(message.body, stored)
     if codings:
         with contextlib.suppress(Unreadable):
-            for _ in _hashed(message.stored_payload(Limits(size=2 * length + _MOST_UNPACKED)), undone):
-                pass
+            for piece in Decoder(codings, Limits(size=2 * length + _MOST_UNPACKED)).over(body):
+                undone.update(piece)
             is_same = digest.is_of(undone)
-    for _ in message.body:  # what is behind the end of the codings, or where they can't be undone
+    for _ in body:  # what is behind the end of the codings, or where they can't be undone
         pass
     if message.front.is_endless:
         return Verdict.UNKNOWN
@@ -117,11 +127,10 @@ def _verdict_on_payload(digest: Digest, message: Message, is_http: bool, length:
     return Verdict.UNKNOWN if is_http and message.http_head is None else Verdict.DIFFERS
 
 
-def _hashed(pieces: Iterator[bytes], found: "Optional[_Hash]") -> Generator[bytes, None, None]:
+def _hashed(pieces: Iterator[bytes], found: "_Hash") -> Iterator[bytes]:
     """Yields pieces, and adds them to a digest."""
     for piece in pieces:
-        if found is not None:
-            found.update(piece)
+        found.update(piece)
         yield piece
 
 
