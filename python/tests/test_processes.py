@@ -3,6 +3,7 @@ import gzip
 import os
 import pathlib
 import queue
+import select
 import signal
 import subprocess
 import sys
@@ -164,6 +165,18 @@ class Programs(Case):
         )
         names = (self.folder / "index.d", self.folder / "archives", os.path.abspath(PROGRAM))
         self.assertEqual(0, subprocess.call((sys.executable, "-c", code, ROOT, *names), timeout=WAIT))
+
+    def test_a_program_has_no_descriptor_of_who_started_this_process(self) -> None:
+        """Else the reader of a pipe, or the client of a connection, would wait for the end of the program too."""
+        reading_end, writing_end = os.pipe()
+        os.set_inheritable(writing_end, True)
+        with open(reading_end, "rb") as pipe:
+            index = self.open(self.put(lines(3)))
+            self.assertEqual(3, index.count(ALL))
+            os.close(writing_end)
+            self.assertEqual([pipe], select.select([pipe], [], [], WAIT)[0])
+            self.assertEqual(b"", pipe.read())
+            self.assertEqual(1, len(processes_of(index)))
 
     def test_a_query_needs_no_temporary_file_and_no_module_of_a_command(self) -> None:
         code = (

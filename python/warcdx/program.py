@@ -138,8 +138,9 @@ class Process:
                     reading, self.stdin = _pipe(given, kept)
                     stdin = reading.fileno()
                 streams = (stdin, output.fileno(), self._said.fileno())
-                moves = [*((each, number) for number, each in enumerate(streams) if each is not None), *zip(descriptors, descriptors)]
-                actions = [(os.POSIX_SPAWN_DUP2, *move) for move in moves]  # a descriptor that is given as itself stays open
+                actions: list[tuple[int, ...]] = [(os.POSIX_SPAWN_CLOSE, each) for each in _inherited()]
+                actions += [(os.POSIX_SPAWN_DUP2, each, number) for number, each in enumerate(streams) if each is not None]
+                actions += [(os.POSIX_SPAWN_DUP2, each, each) for each in descriptors]  # so it stays open
                 self.pid = os.posix_spawnp(
                     self.path, command, os.environ, file_actions=actions, setsigmask=(), setsigdef=(signal.SIGPIPE, signal.SIGXFSZ)
                 )
@@ -226,6 +227,16 @@ class Process:
     def __del__(self) -> None:
         if self.pid:
             self.end()
+
+
+def _inherited() -> list[int]:
+    """Returns the descriptors that a program would have too besides the standard streams, such as those of who started this process."""
+    found = list[int]()
+    for number in map(int, os.listdir("/proc/self/fd")):
+        with contextlib.suppress(OSError):  # it is closed again, as that of the list
+            if number > 2 and os.get_inheritable(number):
+                found.append(number)
+    return found
 
 
 def _pipe(reader: contextlib.ExitStack, writer: contextlib.ExitStack) -> tuple[IO[bytes], IO[bytes]]:
