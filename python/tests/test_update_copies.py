@@ -132,7 +132,9 @@ class FirstState(Case):
         store, outcomes = Store(str(self.folder / "all.d")), list[Outcome]()
         update = Update(Settings(str(self.folder / "archives"), False, "response"), store, None, PROGRAM, Merging(8, False), Silent())
         for fault in (OSError(errno.ENOSPC, "No space left on device"), None):
-            with mock.patch.object(states, "show", side_effect=fault, wraps=states.show), update.done(Removal(0, False), Threads(1)) as outcome:
+            with mock.patch.object(states, "show", side_effect=fault, wraps=states.show), update.done(
+                Removal(0, False), Threads(1)
+            ) as outcome:
                 outcomes.append(outcome)
         self.assertEqual([("No space left on device", False), (None, True)], [(outcome.failure, outcome.is_there) for outcome in outcomes])
 
