@@ -6,7 +6,7 @@ import subprocess
 from collections.abc import Sequence
 
 from warcdx import Error, ProgramEnded
-from warcdx.program import close, find_program, memory_file, start
+from warcdx.program import find_program, memory_file
 
 from .children import end_with_parent, limit_memory, load_system_library
 
@@ -45,10 +45,14 @@ class Check:
         command, before = (find_program(program), "check", *names), functools.partial(_begin, os.getpid(), memory)
         self._said = memory_file()
         try:
-            self._process = start(command, self._said, subprocess.DEVNULL, before)
-        except (Error, MemoryError) as error:
+            # The function is called in the new process, which makes a start slow if this one has much memory.
+            self._process = subprocess.Popen(
+                command, stdin=subprocess.DEVNULL, stdout=subprocess.PIPE, stderr=self._said, preexec_fn=before
+            )
+        except (OSError, MemoryError, subprocess.SubprocessError) as error:  # the last one if there was no memory for the function
             self._said.close()
-            raise NotChecked(f"the indexes couldn't be checked: {str(error) or 'there is no memory'}") from error
+            why = error.strerror if isinstance(error, OSError) else "there is no memory"
+            raise NotChecked(f"the indexes couldn't be checked: {why}") from error
         assert self._process.stdout is not None
         self.output = self._process.stdout
         os.set_blocking(self.output.fileno(), False)
@@ -70,7 +74,8 @@ class Check:
         """Ends the program if it runs. A second call does nothing."""
         self._process.kill()
         self._process.wait()
-        close(self.output, self._said)
+        self.output.close()
+        self._said.close()
 
     def _judge(self, status: int) -> None:
         """Raises the error of a check that has ended, unless each file was read and is in order."""

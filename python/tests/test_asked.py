@@ -20,9 +20,7 @@ CALLS = (Index.captures, Index.pages, Index.page, Index.rows, Index.columns, Ind
 
 def asked(url: object = None, **given: object) -> str:
     """Returns the query text of the parameters of a call."""
-    usual = {name: given.pop(name, None) for name in ("query", "match", "since", "until")}
-    filters, limit = given.pop("filter", ()), given.pop("limit", None)
-    return str(Asked.of(url, *usual.values(), filters, limit, given).query)  # type: ignore[arg-type]
+    return str(Asked.of(url, given).query)  # type: ignore[arg-type]
 
 
 class Moments(unittest.TestCase):

@@ -12,10 +12,10 @@ from collections.abc import Iterator
 from typing import NamedTuple, Optional
 
 from warcdx import Record, Unreadable, payload
-from warcdx.codings import Decoder, Limits, decoded
+from warcdx.codings import Decoder, Limits
 from warcdx.http_messages import Message
 from warcdx.record import Head
-from warcdx.record_digests import BlockCheck
+from warcdx.record_digests import verdicts_of
 
 HAS_BROTLI = importlib.util.find_spec("brotli") is not None
 TEXT = b"<p>one</p>\n"
@@ -264,10 +264,9 @@ class Bodies(unittest.TestCase):
             for body in (shape.stored, shape.wanted):
                 fields = (("Content-Type", "application/http"), ("WARC-Payload-Digest", f"sha1:{hashlib.sha1(body).hexdigest()}"))
                 for size in (1, 7, len(shape.block)):
-                    check = BlockCheck(Head(fields), len(shape.block))
-                    for piece in cut(shape.block, *range(0, len(shape.block), size)):
-                        check.add(piece)
-                    self.assertEqual("same", check.verdicts().payload.value, (shape, size))
+                    pieces = cut(shape.block, *range(0, len(shape.block), size))
+                    found = verdicts_of(Head(fields), len(shape.block), pieces)
+                    self.assertEqual("same", found.payload.value, (shape, size))
 
     def test_the_reason_is_the_same_for_all_pieces(self) -> None:
         for fields, stored, reason in (
@@ -303,11 +302,11 @@ class Bounds(unittest.TestCase):
         named = {"chunked": chunks(bytes(1000)), "gzip": gzip.compress(bytes(1000), mtime=0), "deflate": deflated(bytes(1000))}
         for name, stored in named.items():
             taken = len(stored) + 1000
-            self.assertEqual(bytes(1000), b"".join(decoded(Decoder([name], Limits(size=taken)), [stored])))
+            self.assertEqual(bytes(1000), b"".join(Decoder([name], Limits(size=taken)).over([stored])))
             with self.assertRaisesRegex(Unreadable, "longer than is allowed"):
-                list(decoded(Decoder([name], Limits(size=taken - 1)), [stored]))
+                list(Decoder([name], Limits(size=taken - 1)).over([stored]))
             with self.assertRaisesRegex(Unreadable, "takes longer"):
-                list(decoded(Decoder([name], Limits(seconds=0)), [stored]))
+                list(Decoder([name], Limits(seconds=0)).over([stored]))
 
     @unittest.skipUnless(HAS_BROTLI, "the module brotli is missing")
     def test_a_bomb_of_brotli_is_given_up(self) -> None:
@@ -318,7 +317,7 @@ class Bounds(unittest.TestCase):
         tracemalloc.start()
         self.addCleanup(tracemalloc.stop)
         with self.assertRaisesRegex(Unreadable, "longer than is allowed"):
-            for piece in decoded(Decoder(["br"], Limits(size=1 << 20)), [bomb]):
+            for piece in Decoder(["br"], Limits(size=1 << 20)).over([bomb]):
                 self.assertLessEqual(len(piece), 1 << 16)
         self.assertLess(tracemalloc.get_traced_memory()[1], 64 << 20)
 
@@ -337,7 +336,7 @@ class Bounds(unittest.TestCase):
             ([], bytes(1 << 20)), (["chunked"], chunks(bytes(1 << 20), 1 << 19)), (["gzip"], gzip.compress(bytes(1 << 20), mtime=0)),
         )  # fmt: skip
         for names, stored in cases:
-            sizes = [len(piece) for piece in decoded(Decoder(names), [stored])]
+            sizes = [len(piece) for piece in Decoder(names).over([stored])]
             self.assertEqual((1 << 20, 1 << 16), (sum(sizes), max(sizes)))
 
 

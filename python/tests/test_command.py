@@ -15,10 +15,10 @@ from warcdx.ending import blocked
 from .support import WAIT, Case
 
 BEGINS = """
-import os, signal, sys, time
+import os, signal, sys, tempfile, time
 from warcdx.command import run
 from warcdx.ending import blocked
-from warcdx.temporary import temporary_folder
+from warcdx.outputs import new_file
 
 def work(output):
 """
@@ -36,10 +36,8 @@ FINALIZER = """
     dying = Dying()
     del dying
 """
-FOLDER = """
-    with temporary_folder() as folder:
-        (folder / "file").touch()
-        print(folder, flush=True)
+FILE = """
+    with new_file(os.path.join(tempfile.gettempdir(), "made")) as file:
         with blocked():
             os.kill(os.getpid(), signal.SIGTERM)
             time.sleep(0.01)
@@ -55,7 +53,7 @@ TWO = """
 """
 UNBEGUN = """
     def begun():
-        made = temporary_folder()
+        made = new_file(os.path.join(tempfile.gettempdir(), "made"))
         made.__enter__()
         os.kill(os.getpid(), signal.SIGTERM)
         time.sleep(0.01)
@@ -77,7 +75,7 @@ class Signals(Case):
         self.assertEqual((-signal.SIGTERM, [], b""), self.ended(FINALIZER))
 
     def test_a_signal_that_is_blocked_comes_after_the_block(self) -> None:
-        status, (_, *lines), error = self.ended(FOLDER)
+        status, lines, error = self.ended(FILE)
         self.assertEqual((-signal.SIGTERM, ["blocked"], b""), (status, lines, error))
         self.assertEqual([], list(self.folder.iterdir()))
 
@@ -100,8 +98,8 @@ class Signals(Case):
             self.fail()
         self.assertEqual(before, real(signal.SIG_SETMASK, before))
 
-    def test_a_signal_that_comes_before_a_block_removes_its_folder(self) -> None:
-        """As if it comes in `with`, when the folder is there and the block isn't begun."""
+    def test_a_signal_that_comes_before_a_block_removes_its_file(self) -> None:
+        """As if it comes in `with`, when the file is there and the block isn't begun."""
         status, lines, error = self.ended(UNBEGUN)
         self.assertEqual((-signal.SIGTERM, [], b""), (status, lines, error))
         self.assertEqual([], list(self.folder.iterdir()))

@@ -14,7 +14,7 @@ from .test_bodies import (
 
 class Heads(unittest.TestCase):
     def http(self, block: bytes) -> Optional[HttpHead]:
-        found = {Message(cut(block, *range(0, len(block), size)), True).head for size in (1 if len(block) < 1000 else 1 << 12, 1 << 16)}
+        found = {Message(cut(block, *range(0, len(block), size)), True).http for size in (1 if len(block) < 1000 else 1 << 12, 1 << 16)}
         self.assertEqual(1, len(found), block[:60])
         return found.pop()
 
@@ -57,7 +57,7 @@ class Heads(unittest.TestCase):
     def test_a_head_that_does_not_end_has_no_body(self) -> None:
         long = b"HTTP/1.1 200 OK\r\nA: " + b"a" * (1 << 20) + b"\r\n\r\nbody"
         for block in (b"HTTP/1.1 200 OK", b"HTTP/1.1 200 OK\r\nA: b\r\n", b"\r\nGET / HTTP/1.1\r\n", long):
-            self.assertIsNone(Message(cut(block, *range(0, len(block), 4096)), True).head)
+            self.assertIsNone(Message(cut(block, *range(0, len(block), 4096)), True).http)
             with self.assertRaisesRegex(Unreadable, "the HTTP head doesn't end"):
                 Record.read(record_of(block)).payload()
             self.assertEqual(((), None), (Record.read(record_of(block)).stored_otherwise, Record.read(record_of(block)).http))
@@ -68,7 +68,7 @@ class Heads(unittest.TestCase):
             block = head + b"a" * (size - len(head) - 4) + b"\r\n\r\nbody"
             for piece in (len(block), 1 << 16, 1000):
                 message = Message(cut(block, *range(0, len(block), piece)), True)
-                self.assertEqual(is_head, message.head is not None)
+                self.assertEqual(is_head, message.http is not None)
 
     def test_requests_have_bodies_too(self) -> None:
         block = b"POST /a HTTP/1.1\r\nHost: a\r\nTransfer-Encoding: chunked\r\n\r\n3\r\na=b\r\n0\r\n\r\n"

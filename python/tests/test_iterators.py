@@ -11,7 +11,7 @@ from typing import Any
 from warcdx import Archive, Collection, Error, Index, ProgramEnded, ReplyTooLate, faults, open_archive, refusals
 from warcdx.iterators import Again
 
-from .support import ALL, PROGRAM, SAMPLES, WAIT, Case, children_of, lines, resource
+from .support import ALL, PROGRAM, SAMPLES, WAIT, Case, children_of, lines, processes_of, resource
 
 KILLED = '[ "$1" = %s ] || exec "%s" "$@"\n%s\nkill -9 $$'
 LONG = 3000  # captures of which a page isn't written at once
@@ -105,7 +105,6 @@ class Ended(Case):
         thread.start()
         begun.wait(WAIT)
         self.raises(ValueError, next, shared)
-        shared.fail(ValueError("closed"))
         go.set()
         thread.join()
         self.assertEqual(([1], 2), (found, next(shared)))
@@ -144,20 +143,15 @@ class Closed(Case):
         self.raises(ValueError, next, stream)
         self.assertEqual("the Index is closed", str(self.raises(ValueError, list, captures)))
 
-    def test_a_query_does_not_wait_for_a_half_read_stream_of_its_thread(self) -> None:
-        index = self.open(self.put(lines(LONG)), processes=2)
-        streams = [index.stream(ALL), index.stream(ALL)]
-        next(streams[0])
-        self.assertEqual(LONG, index.count())
-        next(streams[1])
-        for call in (index.count, lambda: next(index.stream(ALL)), lambda: next(index.captures())):
-            self.assertIn("is half read", str(self.raises(ValueError, call)))
-        other, found = index.captures(limit=1), list[Any]()
-        waiting = threading.Thread(target=lambda: found.extend(other))
-        waiting.start()
-        list(streams.pop())
-        waiting.join(WAIT)
-        self.assertEqual((LONG, 1), (index.count(), len(found)))
+    def test_queries_are_answered_beside_streams_that_are_half_read(self) -> None:
+        for processes in (1, 2):
+            index = self.open(self.put(lines(LONG)), processes=processes)
+            streams = [index.stream(ALL) for _ in range(3)]
+            begun = [next(stream) for stream in streams]
+            self.assertEqual((LONG, 1), (index.count(), len(list(index.captures(limit=1)))))
+            for first, stream in zip(begun, streams):
+                self.assertEqual(LONG, (first + b"".join(stream)).count(b"\n"))
+            self.assertEqual(processes, len(processes_of(index)))
 
     def test_a_stream_that_was_read_or_closed_is_no_hindrance(self) -> None:
         index = Index(self.put(lines(LONG)), program=PROGRAM)

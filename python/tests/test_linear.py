@@ -47,7 +47,7 @@ def codings_of(head: bytes) -> list[str]:
 
 
 def head_of(block: bytes) -> object:
-    return Message(iter((block,)), True).head
+    return Message(iter((block,)), True).http
 
 
 def rows_of(text: bytes) -> None:

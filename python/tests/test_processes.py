@@ -3,6 +3,7 @@ import gzip
 import os
 import pathlib
 import queue
+import select
 import signal
 import subprocess
 import sys
@@ -165,6 +166,18 @@ class Programs(Case):
         names = (self.folder / "index.d", self.folder / "archives", os.path.abspath(PROGRAM))
         self.assertEqual(0, subprocess.call((sys.executable, "-c", code, ROOT, *names), timeout=WAIT))
 
+    def test_a_program_has_no_descriptor_of_who_started_this_process(self) -> None:
+        """Else the reader of a pipe, or the client of a connection, would wait for the end of the program too."""
+        reading_end, writing_end = os.pipe()
+        os.set_inheritable(writing_end, True)
+        with open(reading_end, "rb") as pipe:
+            index = self.open(self.put(lines(3)))
+            self.assertEqual(3, index.count(ALL))
+            os.close(writing_end)
+            self.assertEqual([pipe], select.select([pipe], [], [], WAIT)[0])
+            self.assertEqual(b"", pipe.read())
+            self.assertEqual(1, len(processes_of(index)))
+
     def test_a_query_needs_no_temporary_file_and_no_module_of_a_command(self) -> None:
         code = (
             f"import sys, warcdx\nindex = warcdx.Index({str(self.put(lines(3)))!r}, program={PROGRAM!r})\n"
@@ -212,7 +225,7 @@ class Programs(Case):
             self.assertEqual(7, self.raises(ProgramEnded, index.count, ALL).status)
 
     def test_a_reply_that_is_none_is_an_error_of_the_program(self) -> None:
-        text = f'[ "$1" = serve ] || exec "{PROGRAM}" "$@"\nread query; printf "nothing\\n.\\n"; cat'
+        text = f'[ "$1" = serve ] || exec "{PROGRAM}" "$@"\nread query; read end; printf "nothing\\n.\\nrefused NoUrl\\n.\\n"; cat'
         index = self.open(self.put(lines(3)), program=self.script(text))
         self.assertIn("has replied b'nothing'", str(self.raises(ProgramError, index.count, ALL)))
 
@@ -315,7 +328,7 @@ class Threads(Case):
         """Of the two programs one waits until the other has answered."""
         text = f'[ "$1" = serve ] || exec "{PROGRAM}" "$@"\n' + (
             'mkdir "$0.first" 2> /dev/null && { read query; while [ ! -e "$0.done" ]; do sleep 0.01; done; }\n'
-            f'[ -e "$0.done" ] && {{ echo "[[]]"; echo .; }}\nexec "{PROGRAM}" "$@"'
+            f'[ -e "$0.done" ] && {{ read end; printf "[[]]\\n.\\nrefused NoUrl\\n.\\n"; }}\nexec "{PROGRAM}" "$@"'
         )
         index = self.open(self.put(lines(3)), program=self.script(text), processes=2)
         slow: list[int] = []

@@ -150,13 +150,13 @@ class Codings(unittest.TestCase):
             text = b"HTTP/1.1 200 OK\r\nA: b" + end + b"\r\n\r\nbody"
             for size in range(1, len(text) + 1):
                 message = Message(pieces(text, size), True)
-                self.assertEqual(b"HTTP/1.1 200 OK\r\nA: b", message.head_text)
+                self.assertEqual(b"HTTP/1.1 200 OK\r\nA: b", message.http_head)
                 self.assertEqual(b"\r\n\r\nbody", b"".join(message.payload()))
 
     def test_a_block_without_a_head_has_none(self) -> None:
         for text in (b"", b"abc", b"HTTP/1.1 200 OK\r\n"):
-            self.assertIsNone(Message(pieces(text, 2), True).head_text)
-        self.assertIsNone(Message(pieces(b"x" * (3 * MEGABYTE), 1 << 16), True).head_text)
+            self.assertIsNone(Message(pieces(text, 2), True).http_head)
+        self.assertIsNone(Message(pieces(b"x" * (3 * MEGABYTE), 1 << 16), True).http_head)
 
     def test_an_empty_body_has_no_coding(self) -> None:
         for coding in ("br", "gzip", "chunked", "deflate"):

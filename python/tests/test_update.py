@@ -23,8 +23,9 @@ from warcdx.states import MOST_RUNS
 from warcdx.update_archives import Found, FoundArchive, Passed
 from warcdx.update import Merging, batches_of
 from warcdx.update_reports import FAILED, Action, Report, damage_of
-from warcdx.update_tasks import Failed, _causes_of, _Lines, _whole_lines, add_hosts, index_archives, merge_runs
+from warcdx.update_tasks import Failed, _causes_of, _Lines, _whole_lines, filter_run, host_key_of, index_archives, merge_runs
 from warcdx.update_workers import Threads
+from warcdx.url_keys import host_of
 
 from .support import PROGRAM, SAMPLES
 from .test_update_store import in_folder, lines_of
@@ -194,13 +195,13 @@ class TaskTest(unittest.TestCase):
         self.addCleanup(file.close)
         names = ['é "/x.warc', 'é "/y.warc']
         lines = _Lines(file, names)
-        lines.write(lines_of(range(2), "x.warc") + lines_of(range(1), "y.warc"))
+        lines.write((lines_of(range(2), "x.warc") + lines_of(range(1), "y.warc")).splitlines(keepends=True))
         lines.end()
         self.assertEqual(lines.captures, dict(zip(names, (2, 1))))
         self.assertEqual([json.loads(line.split(b" ", 2)[2])["filename"] for line in self.read(file)], [names[0], names[0], names[1]])
         for other in (lines_of(range(1), "z.warc"), b"com,a)/ 20160101000000 {}\n"):
             with self.assertRaises(Failed):
-                lines.write(other)
+                lines.write([other])
                 lines.end()
 
     def read(self, file: IO[bytes]) -> list[bytes]:
@@ -212,38 +213,37 @@ class TaskTest(unittest.TestCase):
         with mock.patch.object(update_tasks, "MOST_MERGED", 3):
             for number in range(10):
                 (folder / str(number)).write_bytes(lines_of(range(number, number + 2), f"{number}.warc"))
-            (folder / "mixed").write_bytes(lines_of(range(3), "a.warc") + lines_of(range(5, 7), "b.warc"))
-            runs: list[Any] = [*((str(number), None) for number in range(10)), ("mixed", ["b.warc"])]
-            path, size, crc_32, filtered = merge_runs(PROGRAM, str(folder), runs, str(folder / "new"))
+            path, size, crc_32 = merge_runs(PROGRAM, str(folder), [*map(str, range(10))], str(folder / "new"))
         found = pathlib.Path(path).read_bytes()
         names = [json.loads(line.split(b" ", 2)[2])["filename"] for line in found.splitlines()]
-        self.assertEqual(Counter(names), {**{f"{number}.warc": 2 for number in range(10)}, "b.warc": 2})
+        self.assertEqual(Counter(names), {f"{number}.warc": 2 for number in range(10)})
         self.assertEqual((size, crc_32), (len(found), zlib.crc32(found)))
-        left = lines_of(range(5, 7), "b.warc")
-        self.assertEqual([each[1:4] for each in filtered], [(len(left), zlib.crc32(left), 2)])
-        self.assertEqual({path.name for path in folder.iterdir()}, {*map(str, range(10)), "mixed", os.path.basename(path)})
-        path, size, crc_32, filtered = merge_runs(PROGRAM, str(folder), [("mixed", ["a.warc"])], str(folder / "only"))
-        self.assertEqual(pathlib.Path(path).read_bytes(), lines_of(range(3), "a.warc"))
-        self.assertEqual(filtered[0][4]["hosts"], {"h000.com": 1, "h001.com": 1, "h002.com": 1})
+        self.assertEqual({path.name for path in folder.iterdir()}, {*map(str, range(10)), os.path.basename(path)})
+        (folder / "mixed").write_bytes(lines_of(range(3), "a.warc") + lines_of(range(5, 7), "b.warc"))
+        path, size, crc_32, captures, counts = filter_run(str(folder), "mixed", ["a.warc"], str(folder / "only"))
+        left = lines_of(range(3), "a.warc")
+        self.assertEqual((left, len(left), zlib.crc32(left), 3), (pathlib.Path(path).read_bytes(), size, crc_32, captures))
+        self.assertEqual(counts["hosts"], {"com,h000": 1, "com,h001": 1, "com,h002": 1})
 
     def test_values_are_bounded(self) -> None:
         with mock.patch.object(update_tasks, "MOST_VALUES", 100):
             lines = _Lines(open(os.devnull, "wb"))
             self.addCleanup(lines._file.close)
             for number in range(1000):
-                lines.write(lines_of(range(number, number + 1), kind="x" * 300 if number % 2 else str(number)))
+                lines.write([lines_of(range(number, number + 1), kind="x" * 300 if number % 2 else str(number))])
             *_, captures, counts = lines.end()
         self.assertEqual(captures, 1000)
         self.assertLessEqual(len(counts["hosts"]), 100)
         self.assertEqual(counts["types"]["x" * 256], 500)
         self.assertEqual(counts["statuses"], {"200": 1000})
 
-    def test_pieces_end_with_lines(self) -> None:
+    def test_pieces_have_whole_lines(self) -> None:
         text = b"a" * (3 << 20) + b"\nb\n\nc\n"
         pieces = list(_whole_lines(io.BytesIO(text)))
-        self.assertEqual(b"".join(pieces), text)
-        self.assertTrue(all(piece.endswith(b"\n") for piece in pieces))
+        self.assertEqual(text.splitlines(keepends=True), [line for piece in pieces for line in piece])
         self.assertEqual(list(_whole_lines(io.BytesIO(b""))), [])
+        with self.assertRaises(Failed):
+            list(_whole_lines(io.BytesIO(text + b"d")))
 
     def test_what_the_program_says(self) -> None:
         def causes(said: str, *names: str) -> Iterator[str]:
@@ -269,24 +269,18 @@ class TaskTest(unittest.TestCase):
 
     def test_the_hosts_of_keys(self) -> None:
         hosts = {
-            b"com,example)/": b"example.com",
-            b"com,example:8080)/a)/b": b"example.com:8080",
-            b"192.0.2.7)/x": b"192.0.2.7",
-            b"[2001:db8::1]:8080)/": b"[2001:db8::1]:8080",
-            b"dns:example.com": b"dns:",
-            b"dns:example.com)": b"dns:",
-            b"urn:x:a)b)/": b"urn:",
-            b"not%20a%20url": b"not%20a%20url:",
-            b"": b":",
+            b"com,example)/": "example.com",
+            b"com,example:8080)/a)/b": "example.com:8080",
+            b"192.0.2.7)/x": "192.0.2.7",
+            b"[2001:db8::1]:8080)/": "[2001:db8::1]:8080",
+            b"dns:example.com": "dns:",
+            b"dns:example.com)": "dns:",
+            b"urn:x:a)b)/": "urn:",
+            b"not%20a%20url": "not%20a%20url:",
+            b"": ":",
         }
         for key, host in hosts.items():
-            counts = Counter[bytes]()
-            add_hosts(counts, [key, key])
-            self.assertEqual(counts, {host: 2}, key)
-        sorted_keys = [b"com,a)/", b"com,a)/x", b"com,a)/x", b"com,a,b)/", b"com,a:80)/", b"com,ab)/", b"dns:a", b"dns:b"]
-        counts = Counter[bytes]()
-        add_hosts(counts, sorted_keys)
-        self.assertEqual(counts, {b"a.com": 3, b"b.a.com": 1, b"a.com:80": 1, b"ab.com": 1, b"dns:": 2})
+            self.assertEqual(host_of(f"{host_key_of(key).decode()})/"), host)
 
 
 class ThreadsTest(unittest.TestCase):
@@ -326,7 +320,7 @@ class ThreadsTest(unittest.TestCase):
                 start(thread)
                 time.sleep(after)
                 os.kill(os.getpid(), signal.SIGTERM)
-                time.sleep(later)  # the thread has taken the signal, and the executor doesn't know of it yet
+                time.sleep(later)  # the thread has taken the signal, and isn't noted yet
 
             with mock.patch.object(threading.Thread, "start", start_and_end), self.assertRaises(Ended):
                 with Threads(2) as workers:

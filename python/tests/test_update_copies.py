@@ -8,13 +8,14 @@ import sqlite3
 import subprocess
 import sys
 import unittest
+import zlib
 from typing import Any
 from unittest import mock
 
 from warcdx import states
 from warcdx.progress import Silent
 from warcdx.update import Merging, Removal, Update
-from warcdx.update_reports import Outcome, Said
+from warcdx.update_reports import Outcome
 from warcdx.update_store import Store
 from warcdx.update_tables import Settings
 from warcdx.update_workers import Threads
@@ -99,9 +100,8 @@ class Copies(Case):
             self.copy()
             self.assertEqual("", self.update("all", "--dry-run"))
             self.assertEqual("6 captures of 3 archives (3 unchanged)", self.update("all"))
-            state = file.stat()
-            rows = self.ask("SELECT size, mtime, inode FROM files ORDER BY rowid DESC LIMIT 1")
-            self.assertEqual([(state.st_size, state.st_mtime_ns, state.st_ino)], rows)
+            text = file.read_bytes()
+            self.assertEqual([(len(text), zlib.crc32(text))], self.ask("SELECT size, crc_32 FROM files"))
         self.copy()
         (self.archives / "3.warc").write_bytes(resource(3))
         self.assertEqual("7 captures of 4 archives (1 indexed, 3 unchanged)", self.update("all"))
@@ -131,14 +131,11 @@ class FirstState(Case):
         (self.folder / "archives").mkdir()
         store, outcomes = Store(str(self.folder / "all.d")), list[Outcome]()
         update = Update(Settings(str(self.folder / "archives"), False, "response"), store, None, PROGRAM, Merging(8, False), Silent())
-
-        def say(outcome: Outcome) -> Said:
-            outcomes.append(outcome)
-            return Said(0, [])
-
-        with mock.patch.object(states, "show", side_effect=OSError(errno.ENOSPC, "No space left on device")):
-            update.run(Removal(0, False), Threads(1), say)
-        update.run(Removal(0, False), Threads(1), say)
+        for fault in (OSError(errno.ENOSPC, "No space left on device"), None):
+            with mock.patch.object(states, "show", side_effect=fault, wraps=states.show), update.done(
+                Removal(0, False), Threads(1)
+            ) as outcome:
+                outcomes.append(outcome)
         self.assertEqual([("No space left on device", False), (None, True)], [(outcome.failure, outcome.is_there) for outcome in outcomes])
 
 

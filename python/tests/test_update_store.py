@@ -12,7 +12,6 @@ import tempfile
 import unittest
 import zlib
 from collections import Counter
-from typing import Any
 
 from warcdx import Fault, Index, faults
 from warcdx.states import runs_of
@@ -62,11 +61,11 @@ class StoreTest(unittest.TestCase):
             self.add("a.warc", range(3))
             with self.assertRaises(faults.CannotOpen):
                 runs_of(self.folder)
-            self.store.publish([], [], {"archives": 1})
+            self.store.publish(None, [], {"archives": 1})
             self.assertEqual(self.texts(), [lines_of(range(3), "a.warc")])
             self.add("b.warc", range(2))
             self.assertEqual(self.texts(), [lines_of(range(3), "a.warc")])
-            self.store.publish([], [], {"archives": 2})
+            self.store.publish(None, [], {"archives": 2})
         self.assertEqual(self.texts(), [lines_of(range(2), "b.warc"), lines_of(range(3), "a.warc")])
         summary = json.loads((self.folder / "current/summary.json").read_text())
         self.assertEqual((summary["captures"], summary["archives"], summary["years"]), (5, 2, {"2016": 5}))
@@ -76,13 +75,13 @@ class StoreTest(unittest.TestCase):
     def test_a_run_is_there_until_the_second_state_without_it(self) -> None:
         with self.store.locked(self.settings):
             self.add("a.warc", range(3))
-            self.store.publish([], [], {})
+            self.store.publish(None, [], {})
             before = runs_of(self.folder)
             self.merge()
             self.store.clear()
             self.assertTrue(all(map(os.path.exists, before)))
             self.assertEqual(self.texts(), [lines_of(range(3), "a.warc")])
-            self.store.publish([], [], {"gone": 1})
+            self.store.publish(None, [], {"gone": 1})
             self.store.clear()
             self.assertFalse(any(map(os.path.exists, before)))
             self.assertEqual(sorted(os.listdir(self.folder / "states")), ["2", "3"])
@@ -93,12 +92,12 @@ class StoreTest(unittest.TestCase):
         with self.store.locked(self.settings):
             self.add("a.warc", range(3))
             self.add("b.warc", range(3, 7))
-            self.store.publish([], [], {})
+            self.store.publish(None, [], {})
             index, unclosed = Index(self.folder, program=PROGRAM), Index(self.folder, program=PROGRAM)
             before = runs_of(self.folder)
             self.merge()
             self.add("c.warc", range(2))
-            self.store.publish([], [], {})
+            self.store.publish(None, [], {})
             self.store.clear()
         self.assertFalse(any(map(os.path.exists, before)))
         self.assertEqual((index.count(), unclosed.count()), (7, 7))
@@ -114,7 +113,7 @@ class StoreTest(unittest.TestCase):
     def test_faults_of_runs_have_their_paths(self) -> None:
         with self.store.locked(self.settings):
             self.add("a.warc", range(3))
-            self.store.publish([], [], {})
+            self.store.publish(None, [], {})
         (run,) = runs_of(self.folder)
         with Index(self.folder, program=PROGRAM) as index:
             pathlib.Path(run).write_text("no line of an index\n")
@@ -122,19 +121,19 @@ class StoreTest(unittest.TestCase):
                 index.count()
         self.assertEqual(caught.exception.file, run)
 
-    def merge(self, filtered: "dict[int, Any] | None" = None, size: int = 0) -> None:
+    def merge(self, size: int = 0) -> None:
         """Makes one run of all."""
         runs, (number,) = self.store.runs(), self.store.reserve(1)
         text = b"".join((self.folder / "runs" / run.file).read_bytes() for run in runs)
         path = f"{self.store.new(number)}-0"
         pathlib.Path(path).write_bytes(text)
-        self.store.publish([Merged(number, path, size or len(text), zlib.crc32(text), runs, filtered or {})], [], {})
+        self.store.publish(Merged(number, path, size or len(text), zlib.crc32(text), runs), [], {})
 
     def test_a_run_that_has_not_all_captures_of_others_is_refused(self) -> None:
         with self.store.locked(self.settings):
             self.add("a.warc", range(3))
             self.add("b.warc", range(4))
-            self.store.publish([], [], {})
+            self.store.publish(None, [], {})
             with self.assertRaises(CannotUpdate):
                 self.merge(size=77)
             self.store.forget(["a.warc"])
@@ -142,6 +141,22 @@ class StoreTest(unittest.TestCase):
                 self.merge()
             self.assertEqual(self.store.noted.state, 1)
         self.assertEqual(self.texts(), [lines_of(range(3), "a.warc"), lines_of(range(4), "b.warc")])
+
+    def test_a_run_is_written_anew_without_archives_that_have_left(self) -> None:
+        with self.store.locked(self.settings):
+            self.add("a.warc", range(3))
+            self.store.publish(None, [], {})
+            (run,), (number,) = self.store.runs(), self.store.reserve(1)
+            path, text = pathlib.Path(f"{self.store.new(number)}-0"), lines_of(range(3), "a.warc")
+            path.write_bytes(text)
+            written = str(path), len(text), zlib.crc32(text), 3, {"years": Counter({"2016": 3})}
+            with self.assertRaises(CannotUpdate):
+                self.store.replace(run._replace(left=2), number, written)
+            self.store.replace(run, number, written)
+            self.assertEqual([(1, 0), (2, 3)], sorted((each.number, each.left) for each in self.store.runs()))
+            self.assertEqual([self.folder / "runs/000001.cdxj"], list(map(pathlib.Path, runs_of(self.folder))))
+            self.store.publish(None, [each for each in self.store.runs() if not each.left], {})
+        self.assertEqual([self.folder / "runs/000002.cdxj"], list(map(pathlib.Path, runs_of(self.folder))))
 
     def test_a_second_process_is_locked_out(self) -> None:
         with self.store.locked(self.settings):
@@ -158,7 +173,7 @@ class StoreTest(unittest.TestCase):
         def work() -> None:
             with self.store.locked(self.settings):
                 self.add("a.warc", range(3))
-                self.store.publish([], [], {})
+                self.store.publish(None, [], {})
 
         class Second(Store):
             def is_made(self) -> bool:
@@ -172,7 +187,7 @@ class StoreTest(unittest.TestCase):
             with self.assertRaisesRegex(CannotUpdate, "another process"), second.locked(self.settings):
                 self.fail("not locked")
             self.add("b.warc", range(2))
-            self.store.publish([], [], {})
+            self.store.publish(None, [], {})
         self.assertEqual(self.texts(), [lines_of(range(2), "b.warc")])
         shutil.rmtree(self.folder)
         before = work
@@ -214,7 +229,7 @@ class StoreTest(unittest.TestCase):
         """It is what has a number that was given, and that the database doesn't have. A state that wasn't made is made."""
         with self.store.locked(self.settings):
             self.add("a.warc", range(3))
-            self.store.publish([], [], {})
+            self.store.publish(None, [], {})
             given = self.store.reserve(2)
             left = [
                 self.folder / "runs" / f"{number:06}.{ending}"
@@ -235,7 +250,7 @@ class StoreTest(unittest.TestCase):
     def test_files_of_others_that_are_named_like_runs_stay(self) -> None:
         with self.store.locked(self.settings):
             self.add("a.warc", range(3))
-            self.store.publish([], [], {})
+            self.store.publish(None, [], {})
         first, next_one = self.folder / "runs/000000.cdxj", self.folder / "runs/000002.cdxj"
         first.write_bytes(b"mine")
         with self.store.locked(self.settings):
@@ -251,7 +266,7 @@ class StoreTest(unittest.TestCase):
                 self.setUp()
                 with self.store.locked(self.settings):
                     self.add("a.warc", range(3))
-                    self.store.publish([], [], {})
+                    self.store.publish(None, [], {})
                 other, link = in_folder(self), self.folder / name
                 left = [
                     other / each for each in ("manifest.json", "summary.json", "000000.cdxj", "000001.cdxj", "000001.new-0123456789abcdef")
@@ -263,26 +278,26 @@ class StoreTest(unittest.TestCase):
                 link.symlink_to(other)
                 with contextlib.suppress(OSError), self.store.locked(self.settings):
                     self.add("b.warc", range(2))
-                    self.store.publish([], [], {})
+                    self.store.publish(None, [], {})
                 self.assertEqual(sorted(other.iterdir()), sorted(left))
 
     def test_a_first_run_that_fails_after_its_state_keeps_the_folders(self) -> None:
         with self.assertRaises(OSError), self.store.locked(self.settings):
-            self.store.publish([], [], {})
+            self.store.publish(None, [], {})
             raise OSError("as of standard output")
         self.assertEqual(["current", "runs", "state.db", "states"], sorted(os.listdir(self.folder)))
 
     def test_a_file_that_has_the_name_of_a_state_is_left(self) -> None:
         with self.store.locked(self.settings):
             for number in range(3):
-                self.store.publish([], [], {"gone": number})
+                self.store.publish(None, [], {"gone": number})
             (self.folder / "states/0").write_text("mine")
         self.assertEqual("mine", (self.folder / "states/0").read_text())
 
     def test_a_state_that_was_changed_is_made_anew(self) -> None:
         with self.store.locked(self.settings):
             self.add("a.warc", range(3))
-            self.store.publish([], [], {"archives": 1})
+            self.store.publish(None, [], {"archives": 1})
         state = self.folder / "states/1"
         for name in ("manifest.json", "summary.json", "000001.cdxj"):
             (state / name).unlink()
@@ -311,12 +326,12 @@ class StoreTest(unittest.TestCase):
         pathlib.Path(single.path).touch()
         os.utime(single.path, (13e9, 13e9))
         with self.assertRaises(CannotUpdate), self.store.opened(self.settings):
-            single.expect()
+            single.state()
 
     def test_an_index_without_captures_is_an_empty_run(self) -> None:
         with self.store.locked(self.settings):
             self.add("a.warc", range(0))
-            self.store.publish([], [], {})
+            self.store.publish(None, [], {})
         self.assertEqual(self.texts(), [b""])
         with Index(self.folder, program=PROGRAM) as index:
             self.assertEqual(list(index), [])

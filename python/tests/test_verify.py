@@ -16,9 +16,8 @@ import unittest
 from typing import Any, Optional
 
 from warcdx import Archive
-from warcdx.record_digests import Digest
+from warcdx.record_digests import Digest, verdicts_of
 from warcdx.record import CLOSING, Head
-from warcdx.record_digests import BlockCheck
 
 from .support import ENDING, PROGRAM, SAMPLES, WAIT, Case, wait_until_caught
 
@@ -65,10 +64,8 @@ def verdicts(text: bytes, size: int = 65_536) -> str:
     """Returns the verdicts on a record whose block is read in pieces of a size."""
     head, _, rest = text.partition(CLOSING)
     block = rest.removesuffix(CLOSING)
-    check = BlockCheck(Head(Head.fields_of(head)), len(block))
-    for start in range(0, len(block), size):
-        check.add(block[start : start + size])
-    return " ".join(verdict.value for verdict in check.verdicts())
+    pieces = (block[start : start + size] for start in range(0, len(block), size))
+    return " ".join(verdict.value for verdict in verdicts_of(Head(Head.fields_of(head)), len(block), pieces))
 
 
 class Digests(unittest.TestCase):

@@ -146,7 +146,6 @@ class Quiet(Runs):
         with subprocess.Popen(command, cwd=self.folder, env={**os.environ, "TMPDIR": str(temporary)}) as process:
             self.wait_for(lambda: "sleep" in map(name_of, started_below(process.pid)))
             self.addCleanup(os.close, os.open(self.folder / "pipe", os.O_WRONLY))
-            self.wait_for(lambda: bool(os.listdir(temporary)))
             started = started_below(process.pid)
             for each in started:
                 self.addCleanup(kill, each)

@@ -30,7 +30,7 @@ class Files(Case):
     def test_records_of_the_usual_form_are_read_without_the_program(self) -> None:
         records = [http(HTTP + bytes(size), None, sha1_of(bytes(size))) for size in (0, 9, 5000, 70_000, 3_000_000)] * 2
         self.expect_without_program(records)
-        with mock.patch.multiple(usual_records, _MOST_HELD=100, _AHEAD=509, _PACKED=101):
+        with mock.patch.multiple(usual_records, _AHEAD=509, _PACKED=101):
             self.expect_without_program(records[:4])
 
     def expect_without_program(self, records: list[bytes]) -> None:

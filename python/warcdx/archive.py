@@ -4,7 +4,7 @@ import io
 import os
 import re
 import stat
-from collections.abc import Generator, Iterator
+from collections.abc import Callable, Generator, Iterator
 from typing import IO, NamedTuple, Optional, TypeVar
 
 from .advice import advice_on
@@ -12,14 +12,15 @@ from .errors import Fault, ProgramError, expect_type, number_of
 from .faults import NoRecord, Read, cannot_open
 from .files import open_at_once
 from .iterators import Again
-from .program import Path, find_packed_program, find_program, memory_file, operand, running, started, write_output
+from .program import Path, Process, find_packed_program, find_program, operand, running, write_output
 from .record import CLOSING, Record, RecordStream, Unreadable
 from .reported import fault
-from .usual_records import MAGIC, MOST, ArchiveFile, usual_record
+from .usual_records import MAGIC, MOST, ArchiveFile, Block, NotUsual, usual_record
 
 FAULTY = 1  # the exit status after a fault that is on the output, and after a digest that differs
 _INPUT = "-"
 _Archive = TypeVar("_Archive", bound="Archive")
+_Read = TypeVar("_Read")
 _MOST = (1 << 63) - 1  # bytes before the end of a record
 _MOST_STREAMED = 1 << 20  # bytes of a record that `stream` holds in memory
 _VERDICT = re.compile(b"0 ([a-z0-9-]+)\n")
@@ -56,9 +57,11 @@ class Archive:
     The iterators read the archive as they are advanced. If it is damaged, they raise the class of
     `warcdx.faults` that is named as the program names the cause, after all records before the damage.
 
-    Records of the usual form, of up to 64 MB, are read by this process. All others are asked of the program, which
+    Records of the usual form are read by this process. All others are asked of the program, which
     alone decides what is at fault. An archive is opened for each call, so `with` and `close` close nothing.
     """
+
+    _may_be_packed = False
 
     def __init__(self, path: Path, *, program: str = "warcdx") -> None:
         self.path = operand(path)
@@ -95,18 +98,27 @@ class Archive:
 
         Records of the usual form are read by this process, and others are asked of the program.
         """
-        return Again(self._records())
+        records = self.each(lambda block: (block, b"".join(block.pieces)))
+        return Again(Record(block.fields, text, block.offset, size) for (block, text), size in records)
 
-    def _records(self) -> Generator[Record, None, None]:
+    def each(self, read: Callable[[Block], _Read]) -> Generator[tuple[_Read, int], None, None]:
+        """Yields what is made of each record by `read`, which reads its block to the end, and the length of the record in the file.
+
+        Records of the usual form are read by this process, and once. From the first other one on, `list` of the program
+        finds the records, and has read a member to its end. It says too why the file can't be read.
+        """
         file = None
         try:
-            with self.opened() as (file, is_packed):
-                yield from file.records(is_packed)
-        except (OSError, ValueError):
-            pass  # the program says why the file can't be read
-        if file is None or file.end < file.size:
-            for listed, stream in self.listed_streams(file):
-                yield Record(stream.head.fields, b"".join(stream.whole_block()), listed.offset, listed.length)
+            with self.opened() as file:
+                for block in file.blocks():
+                    yield read(block), file.next - block.offset
+            return
+        except (NotUsual, OSError, ValueError):
+            pass
+        for listed, stream in self.listed_streams(file):
+            yield read(Block(listed.offset, stream.head.fields, stream.length, stream.whole_block())), listed.length
+        if file is not None and (size := os.stat(self.path).st_size) < file.size:  # another process has cut it
+            raise fault("ShortHead", self.path, size)
 
     def streams(self) -> Iterator[RecordStream]:
         """Yields each record to be read in pieces, before the next one is taken. Long ones take little memory so."""
@@ -122,12 +134,7 @@ class Archive:
         for listed in self.list():
             if listed.offset < start:
                 continue
-            text = self._text_at(listed.offset, listed.length, _MOST_STREAMED)
-            if text is not None:
-                self._expect(before)
-                yield listed, RecordStream(*_parted(text))
-                continue
-            with self._stream_by_program(listed.offset, listed.length) as stream:
+            with self._stream(listed.offset, listed.length, True) as stream:
                 self._expect(before)
                 yield listed, stream
 
@@ -141,7 +148,11 @@ class Archive:
         """
         text = self._text_at(offset, length, MOST)
         found = None if text is None else usual_record(text, offset, length)
-        return self._record_by_program(offset, length) if found is None else found
+        if found is not None:
+            return found
+        with running(*self._get(offset, length)) as output:
+            text = output.read()
+        return Record.read(text, offset, length)
 
     get = record
 
@@ -149,23 +160,24 @@ class Archive:
         """Writes the record that begins at an offset. Raises as `get` does, after a part of it may be written."""
         write_output(output, *self._get(offset, length))
 
-    @contextlib.contextmanager
-    def stream(self, offset: int, *, length: Optional[int] = None, seconds: Optional[float] = None) -> Iterator[RecordStream]:
+    def stream(
+        self, offset: int, *, length: Optional[int] = None, seconds: Optional[float] = None
+    ) -> contextlib.AbstractContextManager[RecordStream]:
         """Opens the record that begins at an offset, as `get` does, to be read in pieces.
 
         It needn't be read to its end. If it is, and the archive is damaged in it, the fault is raised at the end.
         A record of up to 1 MB is read at once. Of a longer one the program unpacks the member to its end, however much
         follows the record. If it is silent for more than `seconds`, it is ended, and ReplyTooLate is raised.
         """
-        text = self._text_at(offset, length, _MOST_STREAMED)
-        if text is not None and usual_record(text) is not None:
-            yield RecordStream(*_parted(text))
-            return
-        with self._stream_by_program(offset, length, seconds) as record:
-            yield record
+        return self._stream(offset, length, False, seconds)
 
     @contextlib.contextmanager
-    def _stream_by_program(self, offset: int, length: Optional[int], seconds: Optional[float] = None) -> Iterator[RecordStream]:
+    def _stream(self, offset: int, length: Optional[int], is_listed: bool, seconds: Optional[float] = None) -> Iterator[RecordStream]:
+        text = self._text_at(offset, length, _MOST_STREAMED)
+        if text is not None and (is_listed or usual_record(text) is not None):
+            head, _, rest = text.partition(CLOSING)
+            yield RecordStream(head, io.BytesIO(rest))
+            return
         with running(*self._get(offset, length), seconds=seconds) as output:
             record = RecordStream.read(output)
             if record is not None:
@@ -175,20 +187,12 @@ class Archive:
 
     def verdict(self, offset: int) -> str:
         """Returns the verdict of `verify` on the record that begins at an offset, which alone is read whole."""
-        with running(*self._get(offset, None)) as record:
-            verdict = self._verdict_on(record)
-        if verdict is None:
-            raise Unreadable("the program has given no verdict")
-        return verdict
-
-    def _verdict_on(self, record: IO[bytes]) -> Optional[str]:
-        """Returns the verdict on a record that a program writes, or None if the record or the verdict isn't whole."""
-        command = (self._program, "verify", _INPUT)
-        with memory_file() as said, started(command, said, record.fileno()) as process:
-            assert process.stdout is not None
+        with running(*self._get(offset, None)) as record, Process((self._program, "verify", _INPUT), record.fileno()) as process:
             found = _VERDICT.fullmatch(process.stdout.read())
             is_whole = process.wait() in (0, FAULTY)
-        return found[1].decode() if found and is_whole else None
+        if found is None or not is_whole:
+            raise Unreadable("the program has given no verdict")
+        return found[1].decode()
 
     def _get(self, offset: int, length: Optional[int]) -> tuple[str, ...]:
         """Returns the command that writes a record.
@@ -201,11 +205,9 @@ class Archive:
         only = () if length is None else ("--length", str(length))
         return self._program, "get", *only, str(offset), self.path
 
-    @contextlib.contextmanager
-    def opened(self) -> Iterator[tuple[ArchiveFile, bool]]:
-        """Opens the file, and yields it and whether it is compressed. Raises OSError or ValueError."""
-        with ArchiveFile(self.path) as file:
-            yield file, self._is_packed(file)
+    def opened(self) -> ArchiveFile:
+        """Opens the file. Raises OSError or ValueError."""
+        return ArchiveFile(self.path, self._may_be_packed)
 
     def close(self) -> None:
         """Does nothing: no file is open between two calls."""
@@ -226,15 +228,10 @@ class Archive:
         """
         offset, length = number_of("offset", offset), None if length is None else number_of("length", length)
         try:
-            with ArchiveFile(self.path) as file:
-                if self._is_packed(file):
-                    return file.member_text(offset, length, most)
-                return None if length is None else file.plain_text(offset, length, most)
+            with self.opened() as file:
+                return file.text(offset, length, most)
         except (OSError, ValueError):
             return None  # the program says why the file can't be read
-
-    def _is_packed(self, file: ArchiveFile) -> bool:
-        return False
 
     def _identity(self) -> Optional[tuple[int, int]]:
         """Returns what another file in the archive's place doesn't have. It stays the same if the archive is written on."""
@@ -249,11 +246,6 @@ class Archive:
             replaced = Read("Read", self.path)
             replaced.advice = "another file has taken its place while it was read"
             raise replaced
-
-    def _record_by_program(self, offset: int, length: Optional[int] = None) -> Record:
-        with running(*self._get(offset, length)) as output:
-            text = output.read()
-        return Record.read(text, offset, length)
 
     def _opened(self) -> IO[bytes]:
         try:
@@ -288,11 +280,10 @@ class CompressedArchive(Archive):
     member. Further faults are NoMember, BadMember, CutMember and SeveralRecords of `warcdx.faults`.
     """
 
+    _may_be_packed = True
+
     def __init__(self, path: Path, *, program: str = "warcdx") -> None:
         super().__init__(path, program=find_packed_program(program))
-
-    def _is_packed(self, file: ArchiveFile) -> bool:
-        return file.is_packed()
 
 
 def open_archive(path: Path, *, program: str = "warcdx") -> Archive:
@@ -338,9 +329,3 @@ def _first_bytes(path: str) -> Optional[bytes]:
             unread = Read("Read", path)
             unread.reason = error.strerror or ""
             raise unread from error
-
-
-def _parted(text: bytes) -> tuple[bytes, IO[bytes]]:
-    """Returns the head of a record without the empty line, and what follows it to be read."""
-    head, _, rest = text.partition(CLOSING)
-    return head, io.BytesIO(rest)

@@ -1,15 +1,17 @@
 """What the parameters of a call of `Index` ask for, and which one of a query the program refuses: its reply has the cause alone."""
+import inspect
 import re
-from collections.abc import Callable
-from typing import NamedTuple, Optional
+from collections.abc import Callable, Mapping
+from typing import Any, NamedTuple, Optional, TypedDict, TypeVar
 from urllib.parse import unquote_plus
 
 from .errors import expect_type, number_of
 from .fields import FIELDS
-from .query import Query, Texts, Value
+from .query import MOST_LIMIT, Query, Texts, Value
 from .reported import refused
 from .stamps import Moment, stamp_of
 
+_Call = TypeVar("_Call", bound=Callable[..., Any])
 _QUERY_TEXT = re.compile("&*[A-Za-z0-9%+_]*[=&]")  # how a query text begins, and no URL does
 _TARGETS = {"url", "key", "matchType"}
 _REPEATABLE = ("filter", "is", "isnot", "has", "hasnot")
@@ -28,6 +30,37 @@ _ONLY = {
     "BadUrl": "url",
 }
 _STAMP = re.compile("[0-9]{1,14}")
+_LIMIT = re.compile("[0-9]{1,7}")
+
+
+class Selection(TypedDict, total=False):
+    """The parameters of a call that select captures, besides a URL. The docstring of `Index` says what they are."""
+
+    match: Optional[str]
+    since: Moment
+    until: Moment
+    filter: Optional[Texts]
+    limit: Optional[int]
+    query: Optional[str]
+    key: Optional[str]
+    matchType: Optional[str]
+    from_: Moment
+    to: Moment
+    is_: Optional[Texts]
+    isnot: Optional[Texts]
+    has: Optional[Texts]
+    hasnot: Optional[Texts]
+    collapse: Optional[str]
+    resumeKey: Optional[str]
+
+
+def selecting(call: _Call) -> _Call:
+    """Gives a call that takes a Selection the signature that its types say, for help and completion."""
+    found = inspect.signature(call)
+    named = [inspect.Parameter(name, inspect.Parameter.KEYWORD_ONLY, annotation=kind) for name, kind in Selection.__annotations__.items()]
+    parameters = [*list(found.parameters.values())[:-1], *(each.replace(default=None) for each in named)]
+    setattr(call, "__signature__", found.replace(parameters=parameters))
+    return call
 
 
 class Asked(NamedTuple):
@@ -37,54 +70,40 @@ class Asked(NamedTuple):
     limit: Optional[int]
 
     @classmethod
-    def of(
-        cls,
-        url: Optional[str],
-        query: Optional[str],
-        match: Optional[str],
-        since: Moment,
-        until: Moment,
-        filter: Texts,
-        limit: Optional[int],
-        others: dict[str, Value],
-    ) -> "Asked":
+    def of(cls, url: Optional[str], selection: Mapping[str, Any]) -> "Asked":
         """Returns what parameters ask for: all captures, if they have no URL, no key and no query text.
 
         Raises the refusal Unknown for a name that no parameter has, and BadStamp for what is no date.
         """
-        _check_names(others)
+        others = dict(selection)
+        query, match, since, until, limit = (others.pop(name, None) for name in ("query", "match", "since", "until", "limit"))
+        for name in others:
+            if name.rstrip("_") not in NAMES:
+                raise refused("Unknown", name)
         for name, text in (("url", url), ("query", query)):
             expect_type(name, text, (str, type(None)), "a text")
-        given: dict[str, Value] = {}
+        given: dict[str, Value] = {"url": url, "matchType": match}
         if url is query is match is None and not _TARGETS & others.keys():
             given = {"key": "", "matchType": "prefix"}
         elif url is not None and (not url or _QUERY_TEXT.match(url)):
-            query = url if query is None else f"{query}&{url}"
-        elif url is not None:
-            given["url"] = url
-        if match is not None:
-            given["matchType"] = match
-        if since is not None:
-            given["from"] = stamp_of("since", since)
-        if until is not None:
-            given["to"] = stamp_of("until", until)
-        given["filter"] = filter
+            given["url"], query = None, url if query is None else f"{query}&{url}"
+        for name, said, moment in (("from", "since", since), ("to", "until", until)):
+            if moment is not None:
+                given[name] = stamp_of(said, moment)
         return cls._with_limit(Query.of(query, {**given, **others}), limit)
 
     @classmethod
     def _with_limit(cls, query: Query, limit: Optional[int]) -> "Asked":
+        """Takes the limit out of a query, unless it is to be refused."""
         if limit is not None and not isinstance(limit, str):
             limit = number_of("limit", limit)
         if isinstance(limit, int) and limit > 0 and query.take("limit")[0] is None:
             return cls(query, limit)
-        left, rest = query.with_parameters(limit=limit).take_limit()
-        return cls(rest, left)
-
-
-def _check_names(parameters: dict[str, Value]) -> None:
-    for name in parameters:
-        if name.rstrip("_") not in NAMES:
-            raise refused("Unknown", name)
+        query = query.with_parameters(limit=limit)
+        value, rest = query.take("limit")
+        digits = unquote_plus(value or "")
+        is_good = _LIMIT.fullmatch(digits) and 1 <= int(digits) <= MOST_LIMIT and rest.take("limit")[0] is None
+        return cls(rest, int(digits)) if is_good else cls(query, None)
 
 
 def parameter_of(cause: str, query: Query) -> Optional[str]:

@@ -1,7 +1,7 @@
 """CDX files of eleven and of nine columns, which are read and written as docs/OTHER_TOOLS.md says."""
 import json
 import re
-from collections.abc import Iterable, Iterator, Sequence
+from collections.abc import Iterator, Sequence
 from typing import IO, NamedTuple, Optional
 
 from .codings import Unreadable
@@ -15,11 +15,10 @@ from .url_keys import MOST_URL, Keyed, keys_of
 HEADER = b" CDX N b a m s k r M S V g\n"
 MOST_LINE = 1 << 24  # bytes of a line, with its line feed
 _MOST_ROWS = 4096  # that one run of the program makes keys for
-_MOST_URLS = 1 << 18  # bytes of their URLs, one row aside
 _MOST_HELD = 1 << 20  # bytes of all their values, one row aside
 _MOST_COLUMNS = 64  # of a header
-_USUAL_LETTERS = {11: b"NbamskrMSVg", 9: b"NbamskrVg"}  # of files without a header, by their columns
-_READ = b"bamskSVg"  # the letters of the values of a row
+_USUAL_LETTERS = {11: b"N b a m s k r M S V g", 9: b"N b a m s k r V g"}  # of files without a header, by their columns
+_READ = (b"b", b"a", b"m", b"s", b"k", b"S", b"V", b"g")  # the letters of the values of a row
 _TIMESTAMP = re.compile(rb"[0-9]{14}")
 _NUMBER = re.compile(rb"[0-9]{1,19}")
 _NOT_IN_A_COLUMN = re.compile(r"[\x00-\x20\x7f]")
@@ -48,25 +47,20 @@ def write_cdx(indexes: Sequence[Path], output: IO[bytes], program: str) -> None:
 
     Raises Error as `warcdx merge` fails, after the captures before the fault.
     """
-    output = whole(output)
+    output, count, is_whole = whole(output), 0, False
     with merged(indexes, program) as lines:
-        count, is_whole = _write_lines(lines, output)
+        for line in lines:
+            columns = _cdx_line(line)
+            if columns is None:
+                break
+            output.write(columns if count else HEADER + columns)
+            count += 1
+        else:
+            is_whole = True
     if not is_whole:
         raise Unreadable("the program has written no line of an index")
     if not count:
         output.write(HEADER)
-
-
-def _write_lines(lines: Iterable[bytes], output: IO[bytes]) -> tuple[int, bool]:
-    """Writes the lines, and the header before the first one. Returns their number, and whether all can be read."""
-    count = 0
-    for line in lines:
-        columns = _cdx_line(line)
-        if columns is None:
-            return count, False
-        output.write(columns if count else HEADER + columns)
-        count += 1
-    return count, True
 
 
 def _cdx_line(line: bytes) -> Optional[bytes]:
@@ -127,15 +121,14 @@ def cdxj_lines(file: IO[bytes], program: str) -> Iterator[bytes]:
 def _batches(file: IO[bytes]) -> Iterator[tuple[list[_Row], Optional[Exception]]]:
     """Yields the rows that one run of the program makes keys for, with the last ones also the fault that ended them."""
     rows: list[_Row] = []
-    urls = held = 0
+    held = 0
     try:
         for row in _rows(file):
             rows.append(row)
-            urls += len(row.url)
             held += sum(map(len, row[1:]))
-            if len(rows) == _MOST_ROWS or urls >= _MOST_URLS or held >= _MOST_HELD:
+            if len(rows) == _MOST_ROWS or held >= _MOST_HELD:
                 yield rows, None
-                rows, urls, held = [], 0, 0
+                rows, held = [], 0
     except (BadRow, Read) as error:
         yield rows, error
     else:
@@ -152,7 +145,7 @@ def _keyed_lines(rows: list[_Row], program: str) -> Iterator[bytes]:
 
 
 def _rows(file: IO[bytes]) -> Iterator[_Row]:
-    letters, places, number = list[bytes](), list[Optional[int]](), 0
+    letters, number = list[bytes](), 0
     while line := _line_of(file):
         number += 1
         if len(line) > MOST_LINE:
@@ -160,17 +153,16 @@ def _rows(file: IO[bytes]) -> Iterator[_Row]:
         line = line.removesuffix(b"\n").removesuffix(b"\r")
         if line.startswith(b" CDX ") or number == 1 and line.startswith(b"CDX "):
             letters = line.lstrip(b" ").split(b" ", _MOST_COLUMNS + 1)[1:]
-            places = _places_of(letters, number)
+            _expect_columns(letters, number)
             continue
         count = line.count(b" ") + 1
-        if not places:
+        if not letters:
             if count not in _USUAL_LETTERS:
                 raise NoColumns(number, f"it has {_columns(count)}, and not 11 or 9; a header names other columns")
-            letters = [bytes([letter]) for letter in _USUAL_LETTERS[count]]
-            places = _places_of(letters, number)
+            letters = _USUAL_LETTERS[count].split(b" ")
         if count != len(letters):
             raise BadRow(number, f"it has {_columns(count)}, and not {len(letters)}")
-        yield _row_of(line.split(b" "), places, number)
+        yield _row_of(dict(zip(reversed(letters), reversed(line.split(b" ")))), number)  # of two columns with one letter the first counts
 
 
 def _columns(count: int) -> str:
@@ -187,20 +179,16 @@ def _line_of(file: IO[bytes]) -> bytes:
         raise fault from error
 
 
-def _places_of(letters: list[bytes], number: int) -> list[Optional[int]]:
-    """Returns in which column each value of a row is, in their order, from the letters of a line."""
+def _expect_columns(letters: list[bytes], number: int) -> None:
     if len(letters) > _MOST_COLUMNS:
         raise BadRow(number, f"the header has more than {_MOST_COLUMNS} columns")
-    named = {letter: letters.index(letter) for letter in letters}
-    named.setdefault(b"V", named.get(b"v", -1))
-    timestamp, url, *others, offset, filename = (named.get(bytes([letter]), -1) for letter in _READ)
-    if min(timestamp, url, offset, filename) < 0:
+    if not {b"a", b"b", b"g"} <= set(letters) or not {b"V", b"v"} & set(letters):
         raise BadRow(number, "the header hasn't the columns a, b, g, and V or v")
-    return [timestamp, url, *(None if place < 0 else place for place in others), offset, filename]
 
 
-def _row_of(values: list[bytes], places: list[Optional[int]], number: int) -> _Row:
-    row = _Row(number, *(b"-" if place is None else values[place] for place in places))
+def _row_of(values: dict[bytes, bytes], number: int) -> _Row:
+    values.setdefault(b"V", values.get(b"v", b"-"))
+    row = _Row(number, *(values.get(letter, b"-") for letter in _READ))
     if cause := _fault_of(row):
         raise BadRow(number, cause)
     return row

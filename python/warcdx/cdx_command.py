@@ -31,13 +31,14 @@ import argparse
 import contextlib
 import functools
 import os
+import sys
 from collections.abc import Sequence
 from typing import IO, BinaryIO, Optional
 
 from .advice import kind_of
 from .cdx import BadRow, NoColumns, cdxj_lines, write_cdx
-from .command import FAILED, FAULTY, Parser, failure, line_of, name_of_file, printable, report, run, status_of
-from .errors import Error, Fault
+from .command import FAILED, FAULTY, Parser, line_of, name_of_file, printable, report, run, status_of
+from .errors import Fault
 from .faults import CannotOpen, Read
 from .inputs import opened, read_again
 from .outputs import STANDARD, output_of
@@ -47,10 +48,6 @@ from .states import files_of
 NAME = "warcdx-cdx"
 COMMANDS = ("to", "from")
 INSTEAD = {"-s --sort": "LC_ALL=C sort puts the lines in order", "--from --to": "write 'from' or 'to' without --"}
-
-
-class NotAll(Exception):
-    """A file can't be read, and was said. So a new file gets no name."""
 
 
 def read_arguments(arguments: Optional[Sequence[str]]) -> argparse.Namespace:
@@ -117,16 +114,11 @@ def convert(name: str, program: str, output: IO[bytes]) -> int:
 
 def work(arguments: Optional[Sequence[str]], output: BinaryIO) -> int:
     given = read_arguments(arguments)
-    try:
-        with output_of(given.output, output) as file:
-            status = {"to": to_cdx, "from": from_cdx}[given.command](given, file)
-            if status == FAILED:
-                raise NotAll
-            return status
-    except NotAll:
-        return FAILED
-    except Error as error:
-        return failure(NAME, error)
+    with output_of(given.output, output) as file:
+        status = {"to": to_cdx, "from": from_cdx}[given.command](given, file)
+        if status == FAILED:
+            sys.exit(status)  # so that a new file gets no name
+        return status
 
 
 def main(arguments: Optional[Sequence[str]] = None) -> int:

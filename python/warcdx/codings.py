@@ -3,10 +3,11 @@
 Archives have bodies without codings that their heads name: the crawler has undone them. So a coding is undone only if
 the body begins with it. A body that begins with a coding, and isn't of it later, is damaged.
 """
+import itertools
 import re
 import time
 import zlib
-from collections.abc import Callable, Iterable, Iterator, Sequence
+from collections.abc import Iterable, Iterator, Sequence
 from dataclasses import dataclass
 from typing import Any, Optional, Union
 
@@ -21,6 +22,7 @@ _MOST_LINE = 1 << 14  # bytes of the line before a chunk
 _GZIP = b"\x1f\x8b"
 _CHUNK_HEAD = rb"0*([0-9A-Fa-f]{1,15})[ \t]*(?:;[^\r\n]*)?\r?\n"
 _FIRST_CHUNK, _NEXT_CHUNK = re.compile(_CHUNK_HEAD), re.compile(rb"\r?\n" + _CHUNK_HEAD)
+_CUT = "the body is cut"
 # Codings that can't be undone here, and what their texts begin with.
 FOREIGN = {"compress": b"\x1f\x9d", "x-compress": b"\x1f\x9d", "zstd": b"\x28\xb5\x2f\xfd"}
 
@@ -49,29 +51,25 @@ UNLIMITED = Limits()
 
 
 class Decoder:
-    """Undoes the codings of a body that is fed in pieces.
-
-    `names` are the codings in lower case, the last one that was applied first. What is yielded for a piece is taken
-    before the next one is fed. Raises Unreadable for a body that is damaged or beyond the limits.
-    """
+    """Undoes the codings of one body. `names` are in lower case, the last one that was applied first."""
 
     def __init__(self, names: Sequence[str], limits: Limits = UNLIMITED) -> None:
         expect_type("limits", limits, Limits, "a Limits, such as Limits(size=10_000_000)")
         if len(names) > MOST_CODINGS:
             raise Unreadable(f"the body has more than {MOST_CODINGS} codings")
-        self._codings = [_coding(name) for name in names]
+        self._codings = [_KINDS.get(name, _Coding)(name) for name in names]
         self._left = limits.size
         self._end = None if limits.seconds is None else time.monotonic() + limits.seconds
 
-    def feed(self, data: bytes) -> Iterator[bytes]:
-        """Yields the next bytes of the body without the codings, in pieces of at most PIECE bytes."""
-        yield from self._undo(0, data)
+    def over(self, body: Iterable[bytes]) -> Iterator[bytes]:
+        """Yields the body that these pieces are, without its codings, in pieces of at most PIECE bytes. Reads them to their end.
 
-    def end(self) -> Iterator[bytes]:
-        """Yields what was held until the body has ended."""
-        for number, coding in enumerate(self._codings):
-            for piece in coding.end():
-                yield from self._undo(number + 1, piece)
+        Raises Unreadable for a body that is damaged or beyond the limits.
+        """
+        pieces = self._counted(body)
+        for coding in self._codings:
+            pieces = self._counted(coding.over(pieces))
+        return pieces
 
     @property
     def stored_otherwise(self) -> tuple[str, ...]:
@@ -82,15 +80,12 @@ class Decoder:
         """Returns whether the body is known to have the last codings, as many as `count`."""
         return all(coding.is_there for coding in self._codings[len(self._codings) - count :])
 
-    def _undo(self, number: int, data: bytes) -> Iterator[bytes]:
-        """Yields bytes without the codings from a number on."""
-        for piece in (data[at : at + PIECE] for at in range(0, len(data), PIECE)):
-            self._count(len(piece))
-            if number == len(self._codings):
+    def _counted(self, pieces: Iterable[bytes]) -> Iterator[bytes]:
+        for data in pieces:
+            for at in range(0, len(data), PIECE):
+                piece = data[at : at + PIECE]
+                self._count(len(piece))
                 yield piece
-                continue
-            for undone in self._codings[number].feed(piece):
-                yield from self._undo(number + 1, undone)
 
     def _count(self, size: int) -> None:
         if self._left is not None:
@@ -101,47 +96,32 @@ class Decoder:
             raise Unreadable("the body takes longer to unpack than is allowed")
 
 
-def decoded(decoder: Decoder, body: Iterable[bytes]) -> Iterator[bytes]:
-    """Yields the body that these pieces are, without its codings. They are read to their end."""
-    for piece in body:
-        yield from decoder.feed(piece)
-    yield from decoder.end()
-
-
 class _Coding:
     """A coding, or a name such as `utf-8` that is none, which no body has."""
 
     def __init__(self, name: str) -> None:
         self.name = name
         self.is_there: Optional[bool] = None  # whether the body has it, once that is known
-        self._first = b""  # bytes, until then
 
-    def feed(self, data: bytes, is_end: bool = False) -> Iterator[bytes]:
-        if self.is_there is None:
-            self._first += data
-            self.is_there = self._begins(self._first, is_end) if self._first else None
-            if self.is_there is None:
-                return
-            data, self._first = self._first, b""
-        if self.is_there:
-            yield from self._undo(data)
-        elif data:
-            yield data
-
-    def end(self) -> Iterator[bytes]:
-        yield from self.feed(b"", is_end=True)
-        if self.is_there and not self._is_over():
-            raise Unreadable("the body is cut")
+    def over(self, pieces: Iterator[bytes]) -> Iterator[bytes]:
+        """Yields a body without the coding, if it has it."""
+        first = b""
+        for piece in pieces:
+            first += piece
+            self.is_there = self._begins(first, False)
+            if self.is_there is not None:
+                break
+        if self.is_there is None and first:
+            self.is_there = self._begins(first, True)
+        body = itertools.chain((first,) if first else (), pieces)
+        yield from self._undone(body) if self.is_there else body
 
     def _begins(self, first: bytes, is_end: bool) -> Optional[bool]:
         """Returns whether a body of these first bytes has the coding, or None to be asked again with more."""
         return False
 
-    def _undo(self, data: bytes) -> Iterator[bytes]:
+    def _undone(self, body: Iterator[bytes]) -> Iterator[bytes]:
         raise Unreadable(f"the coding {self.name!r} can't be undone")
-
-    def _is_over(self) -> bool:
-        return False
 
 
 class _Foreign(_Coding):
@@ -149,19 +129,8 @@ class _Foreign(_Coding):
         return _starts(first, FOREIGN[self.name], is_end)
 
 
-class _Missing(_Coding):
-    """Brotli without its module. Whether a body has it can't be known."""
-
-    def _begins(self, first: bytes, is_end: bool) -> Optional[bool]:
-        raise Unreadable(f"the coding {self.name!r} needs the module brotli (Debian's package python3-brotli)")
-
-
 class _Chunks(_Coding):
     """Chunks (RFC 9112, section 7.1). Lines may end with LF alone. What follows the size of the last one is left out."""
-
-    _pattern = _FIRST_CHUNK
-    _line = b""  # what has come of the lines before a chunk
-    _left: Optional[int] = None  # bytes of the chunk; of the last one 0
 
     def _begins(self, first: bytes, is_end: bool) -> Optional[bool]:
         """The first line is a size, and a line break follows as many bytes. A page may begin with a number too."""
@@ -179,29 +148,31 @@ class _Chunks(_Coding):
             return end > found.end()  # a chunk that is cut, or the page `0`
         return behind.startswith(b"\n") or b"\r\n".startswith(behind)
 
-    def _undo(self, data: bytes) -> Iterator[bytes]:
-        data, self._line, at = self._line + data, b"", 0
-        while at < len(data) and self._left != 0:
-            if self._left is None:
-                found = self._pattern.match(data, at, at + _MOST_LINE)
-                if not found:
-                    self._line = self._begun(data[at : at + _MOST_LINE])
-                    return
-                self._left, at = int(found[1], 16), found.end()
-                continue
-            piece = data[at : at + self._left]
-            self._left, at = self._left - len(piece) or None, at + len(piece)
-            self._pattern = _NEXT_CHUNK
-            yield piece
+    def _undone(self, body: Iterator[bytes]) -> Iterator[bytes]:
+        pattern, line = _FIRST_CHUNK, b""  # what has come of the lines before a chunk
+        left: Optional[int] = None  # bytes of the chunk; of the last one 0
+        for data in body:
+            data, line, at = line + data, b"", 0
+            while at < len(data) and left != 0 and not line:
+                if left is None:
+                    found = pattern.match(data, at, at + _MOST_LINE)
+                    if found:
+                        left, at = int(found[1], 16), found.end()
+                    else:
+                        line = self._begun(data[at : at + _MOST_LINE])
+                    continue
+                piece = data[at : at + left]
+                left, at = left - len(piece) or None, at + len(piece)
+                pattern = _NEXT_CHUNK
+                yield piece
+        if left != 0:
+            raise Unreadable(_CUT)
 
     def _begun(self, line: bytes) -> bytes:
         """Returns what isn't yet the lines before a chunk."""
         if line.count(b"\n") > 1 or len(line) == _MOST_LINE:
             raise Unreadable("a chunk has a size that is none, or more bytes than its size")
         return line
-
-    def _is_over(self) -> bool:
-        return self._left == 0
 
 
 class _BrotliText:
@@ -236,34 +207,45 @@ _Text = Union["zlib._Decompress", _BrotliText]
 class _Packed(_Coding):
     """A compressed text, of gzip one or more members. As by `gunzip`, what follows and doesn't begin so is left out."""
 
-    def __init__(self, name: str, start: Callable[[], _Text]) -> None:
-        super().__init__(name)
-        self._start = start
-        self._text = start()
-        self._is_left_out = False  # what follows
+    def _start(self) -> _Text:
+        raise NotImplementedError
 
     def _begins(self, first: bytes, is_end: bool) -> Optional[bool]:
-        return _unpacks(self._start(), first, is_end)
+        """A body of at most _TRIED bytes is one whole text, and a longer one is of a text that goes on."""
+        text, size = self._start(), 0
+        if len(first) <= _TRIED and not is_end:
+            return None
+        try:
+            for piece in _unpacked(text, first[:_TRIED]):
+                size += len(piece)
+                if size > PIECE:
+                    return True  # so far no other bytes come
+        except Unreadable:
+            return False
+        return text.eof == (len(first) <= _TRIED) and not text.unused_data
 
-    def _undo(self, data: bytes) -> Iterator[bytes]:
-        for packed in (data[at : at + _PACKED] for at in range(0, len(data), _PACKED)):
-            while packed and not self._is_left_out:
-                if self._text.eof:
-                    self._is_left_out = not self._follows(packed)
-                    self._text = self._text if self._is_left_out else self._start()
+    def _undone(self, body: Iterator[bytes]) -> Iterator[bytes]:
+        text, is_left_out = self._start(), False
+        for packed in (data[at : at + _PACKED] for data in body for at in range(0, len(data), _PACKED)):
+            while packed and not is_left_out:
+                if text.eof:
+                    is_left_out = not self._follows(packed)
+                    text = text if is_left_out else self._start()
                 else:
-                    yield from _unpacked(self._text, packed)
-                    packed = self._text.unused_data
+                    yield from _unpacked(text, packed)
+                    packed = text.unused_data
+        if not text.eof:
+            raise Unreadable(_CUT)
 
     def _follows(self, packed: bytes) -> bool:
         """Returns whether a further text begins."""
         return False
 
-    def _is_over(self) -> bool:
-        return self._text.eof
-
 
 class _Gzip(_Packed):
+    def _start(self) -> _Text:
+        return zlib.decompressobj(16 + zlib.MAX_WBITS)
+
     def _begins(self, first: bytes, is_end: bool) -> Optional[bool]:
         return _starts(first, _GZIP, is_end)
 
@@ -272,6 +254,13 @@ class _Gzip(_Packed):
 
 
 class _Brotli(_Packed):
+    def _start(self) -> _Text:
+        try:
+            import brotli
+        except ImportError:  # whether a body has the coding can't be known
+            raise Unreadable(f"the coding {self.name!r} needs the module brotli (Debian's package python3-brotli)") from None
+        return _BrotliText(brotli)
+
     def _follows(self, packed: bytes) -> bool:
         raise Unreadable("bytes follow the compressed body")  # as the module says if the end comes with them
 
@@ -279,36 +268,22 @@ class _Brotli(_Packed):
 class _Deflate(_Packed):
     """A text of zlib (RFC 1950), or one of deflate alone, which some servers send."""
 
+    _bits = -zlib.MAX_WBITS
+
+    def _start(self) -> _Text:
+        return zlib.decompressobj(self._bits)
+
     def _begins(self, first: bytes, is_end: bool) -> Optional[bool]:
         head = int.from_bytes(first[:2], "big")
-        is_of_zlib = len(first) > 1 and head & 0x8F20 == 0x800 and head % 31 == 0
-        self._text = zlib.decompressobj(zlib.MAX_WBITS if is_of_zlib else -zlib.MAX_WBITS)
-        if is_of_zlib:
+        if len(first) > 1 and head & 0x8F20 == 0x800 and head % 31 == 0:
+            self._bits = zlib.MAX_WBITS
             return True
-        return _unpacks(zlib.decompressobj(-zlib.MAX_WBITS), first, is_end)
+        return super()._begins(first, is_end)
 
 
 def _starts(first: bytes, start: bytes, is_end: bool) -> Optional[bool]:
     """Returns whether the first bytes of a body are certain ones, or None if more have to come."""
     return None if first != start and start.startswith(first) and not is_end else first.startswith(start)
-
-
-def _unpacks(text: _Text, first: bytes, is_end: bool) -> Optional[bool]:
-    """Returns whether the first bytes of a body are a text, or None if more have to come.
-
-    A body of at most _TRIED bytes is one whole text, and a longer one is of a text that goes on.
-    """
-    if len(first) <= _TRIED and not is_end:
-        return None
-    size = 0
-    try:
-        for piece in _unpacked(text, first[:_TRIED]):
-            size += len(piece)
-            if size > PIECE:
-                return True  # so far no other bytes come
-    except Unreadable:
-        return False
-    return text.eof == (len(first) <= _TRIED) and not text.unused_data
 
 
 def _unpacked(text: _Text, data: bytes) -> Iterator[bytes]:
@@ -324,17 +299,11 @@ def _unpacked(text: _Text, data: bytes) -> Iterator[bytes]:
             return
 
 
-def _coding(name: str) -> _Coding:
-    if name == "chunked":
-        return _Chunks(name)
-    if name in ("gzip", "x-gzip"):
-        return _Gzip(name, lambda: zlib.decompressobj(16 + zlib.MAX_WBITS))
-    if name == "deflate":
-        return _Deflate(name, zlib.decompressobj)
-    if name != "br":
-        return _Foreign(name) if name in FOREIGN else _Coding(name)
-    try:
-        import brotli
-    except ImportError:
-        return _Missing(name)
-    return _Brotli(name, lambda: _BrotliText(brotli))
+_KINDS: dict[str, type[_Coding]] = {
+    "br": _Brotli,
+    "chunked": _Chunks,
+    "deflate": _Deflate,
+    "gzip": _Gzip,
+    "x-gzip": _Gzip,
+    **dict.fromkeys(FOREIGN, _Foreign),
+}

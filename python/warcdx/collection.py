@@ -3,17 +3,21 @@ import contextlib
 import errno
 import os
 from collections.abc import Iterable, Iterator, Mapping, Sequence
-from typing import Any, Optional, Union
+from typing import TYPE_CHECKING, Optional, Union
 
 from .archive import Archive, expect_file, open_archive
+from .asked import Selection, selecting
 from .errors import NoArchive, expect_type
 from .faults import cannot_open
+from .files import is_in
 from .fitting import fitting_record, fitting_stream
-from .index import Index
+from .index import PAGE_SIZE, Index
 from .program import Path, find_program, operands
-from .query import Capture, Texts
+from .query import Capture
 from .record import Record, RecordStream
-from .stamps import Moment
+
+if TYPE_CHECKING:
+    from typing_extensions import Unpack
 
 Archives = Union[Path, Iterable[Path], Mapping[str, Path]]
 _MOST_KNOWN = 4096  # archives of which the path and the form are kept
@@ -59,36 +63,19 @@ class Collection:
         self._program = find_program(program)
         self._known: dict[str, Archive] = {}
 
+    @selecting
     def captures(
-        self,
-        url: Optional[str] = None,
-        *,
-        match: Optional[str] = None,
-        since: Moment = None,
-        until: Moment = None,
-        filter: Texts = (),
-        limit: Optional[int] = None,
-        query: Optional[str] = None,
-        **parameters: Any,
+        self, url: Optional[str] = None, *, page_size: Optional[int] = PAGE_SIZE, **selection: "Unpack[Selection]"
     ) -> Iterator[Capture]:
         """Yields the captures that a query selects, as `Index.captures` does: all of them without an argument."""
-        return self.index.captures(url, match=match, since=since, until=until, filter=filter, limit=limit, query=query, **parameters)
+        return self.index.captures(url, page_size=page_size, **selection)
 
+    @selecting
     def records(
-        self,
-        url: Optional[str] = None,
-        *,
-        match: Optional[str] = None,
-        since: Moment = None,
-        until: Moment = None,
-        filter: Texts = (),
-        limit: Optional[int] = None,
-        query: Optional[str] = None,
-        **parameters: Any,
+        self, url: Optional[str] = None, *, page_size: Optional[int] = PAGE_SIZE, **selection: "Unpack[Selection]"
     ) -> Iterator[Record]:
         """Yields the record of each capture that a query selects. Raises as `record` does."""
-        captures = self.captures(url, match=match, since=since, until=until, filter=filter, limit=limit, query=query, **parameters)
-        return map(self.record, captures)
+        return map(self.record, self.captures(url, page_size=page_size, **selection))
 
     def record(self, capture: Capture) -> Record:
         """Returns the record of a capture, which is held in memory.
@@ -155,16 +142,9 @@ def find_archive(folders: Sequence[Path], name: str, links: Optional[Sequence[Pa
     path = _path_of(name)
     for folder in folders if path is not None else ():
         found = os.path.join(os.fspath(folder), path or "")
-        if os.path.exists(found) and (links is None or _is_in(found, (folder, *links))):
+        if os.path.exists(found) and (links is None or any(is_in(found, each) for each in (folder, *links))):
             return found
     return None
-
-
-def _is_in(path: str, folders: Sequence[Path]) -> bool:
-    """Returns whether a file is in one of some folders, without links in the way."""
-    real = os.path.realpath(path)
-    roots = [os.path.realpath(os.fspath(folder)) for folder in folders]
-    return any(os.path.commonpath((real, root)) == root for root in roots)
 
 
 def _path_of(name: str) -> Optional[str]:

@@ -1,7 +1,6 @@
 """What the commands of this package share: their arguments, output and messages, and how a signal ends them."""
 import argparse
 import contextlib
-import io
 import itertools
 import os
 import re
@@ -193,20 +192,21 @@ def run(name: str, work: Callable[[BinaryIO], int]) -> int:
     """Runs a command, whose standard output is handed to `work`, and returns its exit status.
 
     All bytes that `work` writes or prints are on standard output, or a line of standard error says why they
-    aren't and the status is 3. The same is true of memory that can't be allocated, and of a file that can't be
-    used. INT, TERM and HUP end the process as they do by default, after what `work` has made is removed and its
+    aren't and the status is 3. The same is true of memory that can't be allocated, of a file that can't be
+    used, and of an Error that `work` raises. INT, TERM and HUP end the process as they do by default, after what `work` has made is removed and its
     programs are ended.
     """
-    said = no_memory = message(name, "Memory")
+    said = message(name, "Memory")
     number: Optional[int] = None
     try:
-        return _run_on_standard_streams(work)
+        return _run_on_standard_streams(name, work)
     except Ended as ended:
         number = ended.number
-    except (OSError, RuntimeError) as error:
-        said = message(name, _failure_of(error))
-    except (MemoryError, SystemError):  # SystemError: Python's own code had no memory for an exception
-        said = no_memory
+    except OSError as error:
+        said = message(name, reason_of(error))
+    except (MemoryError, RuntimeError, SystemError) as error:  # SystemError: Python's own code had no memory for an exception
+        if isinstance(error, RuntimeError) and str(error) != NO_THREAD:
+            raise
     # What the exception held is free, so that there is memory to say so. And each `with` block that a signal has kept
     # from being begun, after its file was made, has ended.
     if number is not None:
@@ -215,7 +215,7 @@ def run(name: str, work: Callable[[BinaryIO], int]) -> int:
     return FAILED
 
 
-def _run_on_standard_streams(work: Callable[[BinaryIO], int]) -> int:
+def _run_on_standard_streams(name: str, work: Callable[[BinaryIO], int]) -> int:
     open_closed_streams()
     catch_signals()
     threading.excepthook = _end_of_thread
@@ -225,28 +225,14 @@ def _run_on_standard_streams(work: Callable[[BinaryIO], int]) -> int:
             status = work(output)
         except SystemExit as end:
             status = end.code if isinstance(end.code, int) else 0
+        except Error as error:
+            status = failure(name, error)
         output.flush()
         return status
     finally:
-        _close(output)
-
-
-def _failure_of(error: "OSError | RuntimeError") -> str:
-    """Returns why a command has failed. Raises an error of its code."""
-    if isinstance(error, OutputError):
-        return f"Write: {error.strerror}"
-    if isinstance(error, OSError):
-        return reason_of(error)
-    if str(error) == NO_THREAD:
-        return "Memory"
-    raise error
-
-
-def _close(output: io.BufferedWriter) -> None:
-    """Closes standard output. What couldn't be written isn't written again."""
-    with contextlib.suppress(OSError, ValueError, MemoryError):
-        output.raw.close()
-        output.close()
+        with contextlib.suppress(OSError, ValueError, MemoryError):  # what couldn't be written isn't written again
+            output.raw.close()
+            output.close()
 
 
 _usual_end_of_thread = threading.excepthook
@@ -262,6 +248,8 @@ def reason_of(error: Exception) -> str:
     """Returns what an error says: of a failed system call the file, if it is known, and the system's reason."""
     if isinstance(error, Fault):
         return line_of(error)
+    if isinstance(error, OutputError):
+        return f"Write: {error.strerror}"
     if not isinstance(error, OSError) or error.strerror is None:
         return str(error)
     if error.filename is None:

@@ -3,7 +3,6 @@ import contextlib
 import os
 import signal
 import sys
-import threading
 from collections.abc import Iterator
 from types import FrameType
 from typing import Optional
@@ -32,12 +31,8 @@ def catch_signals() -> None:
 def _raise_ended(number: int, frame: Optional[FrameType]) -> None:
     for each in _SIGNALS:
         if signal.getsignal(each) is not signal.SIG_IGN:
-            signal.signal(each, _do_nothing)  # of a signal that has come already and is then ignored Python complains
+            signal.signal(each, lambda *_: None)  # of a signal that has come already and is then ignored Python complains
     raise Ended(number)
-
-
-def _do_nothing(number: int, frame: Optional[FrameType]) -> None:
-    pass
 
 
 def _end_in_finalizer(arguments: "sys.UnraisableHookArgs") -> None:
@@ -63,26 +58,3 @@ def blocked() -> Iterator[None]:
         yield
     finally:
         signal.pthread_sigmask(signal.SIG_SETMASK, before)
-
-
-@contextlib.contextmanager
-def uninterrupted() -> Iterator[None]:
-    """Lets the handlers of signals run only after a block, such as one in which a new process isn't noted yet.
-
-    Unlike in `blocked`, what is started may be ended by signals. Handlers run in the main thread alone.
-    """
-    came: list[int] = []
-    with contextlib.ExitStack() as stack:
-        if threading.current_thread() is threading.main_thread():
-            stack.callback(_raise_all, came)
-            for number in _SIGNALS:
-                usual = signal.getsignal(number)
-                if callable(usual):
-                    stack.callback(signal.signal, number, usual)
-                    signal.signal(number, lambda number, frame: came.append(number))
-        yield
-
-
-def _raise_all(numbers: list[int]) -> None:
-    for number in numbers:
-        signal.raise_signal(number)

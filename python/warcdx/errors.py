@@ -1,6 +1,6 @@
 """What can go wrong: the program can't be run, a query is refused, or a file is at fault."""
 import operator
-from typing import ClassVar, Optional, SupportsIndex, Union
+from typing import Optional, SupportsIndex, Union
 
 
 class Error(Exception):
@@ -82,7 +82,7 @@ class Refused(Error):
     QueryTooLong, NotText, NoUrl and UrlAndKey. `advice` says what can be given, if there is something to say.
     """
 
-    advice: ClassVar[str] = ""
+    advice = ""
 
     def __init__(self, name: str, parameter: Optional[str] = None) -> None:
         super().__init__(name, parameter)

@@ -102,23 +102,14 @@ class CannotOpen(Fault):
         return cannot_open, (self.file, self.system_error)
 
 
-class _Missing(CannotOpen, FileNotFoundError):
-    """There is no such file."""
-
-
-class _Forbidden(CannotOpen, PermissionError):
-    """Opening the file isn't allowed."""
-
-
-for _kind in (_Missing, _Forbidden):
-    _kind.__name__ = _kind.__qualname__ = "CannotOpen"  # as tracebacks have it
+_MISSING: type[CannotOpen] = type("CannotOpen", (CannotOpen, FileNotFoundError), {"__module__": __name__})
+_FORBIDDEN: type[CannotOpen] = type("CannotOpen", (CannotOpen, PermissionError), {"__module__": __name__})
+_KINDS = {errno.ENOENT: _MISSING, errno.EACCES: _FORBIDDEN, errno.EPERM: _FORBIDDEN}
 
 
 def cannot_open(path: str, error: Optional[int]) -> CannotOpen:
     """Returns the fault of a file that can't be opened. `error` is the number of the system's error, if it is known."""
-    kinds = {errno.ENOENT: _Missing, errno.EACCES: _Forbidden, errno.EPERM: _Forbidden}
-    kind = CannotOpen if error is None else kinds.get(error, CannotOpen)
-    fault = kind("CannotOpen", path)
+    fault = _KINDS.get(error or 0, CannotOpen)("CannotOpen", path)
     if error is not None:
         fault.reason, fault.system_error = os.strerror(error), error
         fault.advice = advice_on_name(path) if error == errno.ENOENT else ""

@@ -48,7 +48,7 @@ from typing import IO, BinaryIO, Optional
 
 from .advice import advice_on, advice_on_query
 from .collection import Collection
-from .command import FAILED, FAILURES, FAULTY, Parser, failure, line_of, name_of_file, name_on_disk, printable, report, run, status_of
+from .command import FAILED, FAILURES, FAULTY, Parser, line_of, name_of_file, name_on_disk, printable, report, run, status_of
 from .errors import Error, Fault, NoArchive, Refused
 from .faults import CannotOpen, NoRecord, Read
 from .fetching import moment_of, nearest, opened_page
@@ -287,8 +287,6 @@ def work(arguments: Optional[Sequence[str]], output: BinaryIO) -> int:
     except (NoArchive, Unreadable) as error:
         report(NAME, f"{printable(given.query)}: {printable(str(error))}")
         return FAULTY
-    except Error as error:
-        return failure(NAME, error)
 
 
 def main(arguments: Optional[Sequence[str]] = None) -> int:

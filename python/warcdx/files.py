@@ -1,22 +1,17 @@
 """Files that are made under names of their own, and are on the disk before anything stands on them."""
 import contextlib
-import errno
 import io
 import os
 import stat
-from collections.abc import Iterable, Iterator
-from typing import Optional, Union
+from collections.abc import Iterator
+from typing import IO, Optional, Union
 
 Path = Union[str, os.PathLike[str]]
 
 
 def open_at_once(path: Path) -> io.FileIO:
     """Opens a file to be read, without waiting for who writes a pipe. Raises OSError or ValueError."""
-    return open(path, "rb", buffering=0, opener=_open_at_once)
-
-
-def _open_at_once(path: str, flags: int) -> int:
-    return os.open(path, flags | os.O_NONBLOCK)
+    return open(path, "rb", buffering=0, opener=lambda name, flags: os.open(name, flags | os.O_NONBLOCK))
 
 
 def is_regular(path: Path, size: Optional[int] = None) -> bool:
@@ -28,43 +23,17 @@ def is_regular(path: Path, size: Optional[int] = None) -> bool:
     return stat.S_ISREG(found.st_mode) and size in (None, found.st_size)
 
 
-def write_new(path: Path, texts: Iterable[str]) -> None:
-    """Writes a file that is made now, in ASCII. It is on the disk, or isn't there. Raises OSError."""
-    with open(path, "xb") as file, _removed_if_failed(path):
-        file.writelines(text.encode("ascii") for text in texts)
-        file.flush()
-        os.fsync(file.fileno())
-
-
-def move(path: Path, new_path: Path) -> None:
-    """Gives a file a name that nothing has yet, also on another file system. It is on the disk. Raises OSError."""
-    try:
-        if os.path.lexists(new_path):
-            raise FileExistsError(errno.EEXIST, os.strerror(errno.EEXIST), os.fspath(new_path))
-        os.rename(path, new_path)
-    except OSError as error:
-        if error.errno != errno.EXDEV:
-            raise
-        _copy(path, new_path)
-        os.remove(path)
-
-
-def _copy(path: Path, new_path: Path) -> None:
-    import shutil  # which is seldom needed
-
-    with open(path, "rb") as source, open(new_path, "xb") as file, _removed_if_failed(new_path):
-        shutil.copyfileobj(source, file)
-        file.flush()
-        os.fsync(file.fileno())
-
-
 @contextlib.contextmanager
-def _removed_if_failed(path: Path) -> Iterator[None]:
-    try:
-        yield
-    except BaseException:
-        remove(path)
-        raise
+def made(path: Path) -> Iterator[IO[bytes]]:
+    """Opens a file that is made now. It is on the disk at the end, or isn't there. Raises OSError."""
+    with open(path, "xb") as file:
+        try:
+            yield file
+            file.flush()
+            os.fsync(file.fileno())
+        except BaseException:
+            os.remove(path)
+            raise
 
 
 def remove(path: Path) -> None:

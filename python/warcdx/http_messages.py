@@ -3,14 +3,15 @@ import contextlib
 import functools
 import itertools
 import re
-from collections.abc import Iterator, Sequence
+from collections.abc import Generator, Iterator, Sequence
 from dataclasses import dataclass
-from typing import Optional
+from typing import NamedTuple, Optional
 
-from .codings import PIECE, UNLIMITED, Decoder, Limits, Unreadable, decoded
+from .codings import UNLIMITED, Decoder, Limits, Unreadable
 from .errors import expect_type
+from .iterators import Again
 
-HEAD_LIMIT = 1 << 20  # bytes of a head
+HEAD_LIMIT = 1 << 20  # bytes of a head, of HTTP or of a record
 _MOST_HELD = 16  # pieces of a body that are read ahead
 _BLANKS = (" ", "\t")
 _LINE_BREAK = re.compile(r"\r?\n")
@@ -109,115 +110,132 @@ class HttpHead(WithFields):
         return [each for each in names if each not in ("", "identity")]
 
 
-class HeadReader:
-    """Reads the HTTP head with which a block begins that is fed in pieces. Line breaks may precede it (RFC 9112, 2.2).
+class Front(NamedTuple):
+    """What precedes the body of a block: the text of an HTTP head without the empty line at its end, if there is one.
 
-    A block that doesn't begin with the line of a head is a body alone, as of HTTP/0.9.
+    `size` is how many bytes precede the body. A head `is_endless` if it begins, and doesn't end within HEAD_LIMIT bytes, or
+    in the block.
     """
 
-    def __init__(self) -> None:
-        self.text: Optional[bytes] = None  # of the head, without the empty line at its end, if the block has one
-        self.is_read = False
-        self.size = 0  # bytes of the block before the body
-        self.is_endless = False  # whether a head begins and doesn't end: within HEAD_LIMIT bytes, or in the block
-        self._held = bytearray()
-        self._start = 0  # where the head begins
+    text: Optional[bytes] = None
+    size: int = 0
+    is_endless: bool = False
 
-    def feed(self, piece: bytes) -> bytes:
-        """Takes the next bytes of the block, and returns those of the body."""
-        if self.is_read:
-            return b"" if self.is_endless else piece
-        searched = len(self._held) - 3
-        self._held += piece
-        while self._held[self._start : self._start + 1] in (b"\r", b"\n"):
-            self._start += 1
-        found = _END_OF_HEAD.search(self._held, max(self._start, searched), HEAD_LIMIT)
-        return self._body(found) if found or len(self._held) >= HEAD_LIMIT else b""
 
-    def end(self) -> bytes:
-        """Returns the last bytes of the body, when the block has ended."""
-        return b"" if self.is_read else self._body(None)
+def read_front(block: Iterator[bytes]) -> tuple[Front, bytes]:
+    """Reads what precedes the body of a block, which is given in pieces, and returns it and the first bytes of the body.
 
-    def _body(self, end: Optional["re.Match[bytes]"]) -> bytes:
-        """Returns what was held, but for the head."""
-        self.is_read = True
-        held, self._held = bytes(self._held), bytearray()
-        if not _START_LINE.match(held, self._start):
-            return held
-        self.is_endless = not end
-        self.text = held[self._start : end.start()] if end else None
-        self.size = end.end() if end else len(held)
-        return held[end.end() :] if end else b""
+    Line breaks may precede a head (RFC 9112, 2.2). A block that doesn't begin with the line of a head is a body alone, as
+    of HTTP/0.9.
+    """
+    held, start, end = bytearray(), 0, None
+    for piece in block:
+        searched = len(held) - 3
+        held += piece
+        while held[start : start + 1] in (b"\r", b"\n"):
+            start += 1
+        end = _END_OF_HEAD.search(held, max(start, searched), HEAD_LIMIT)
+        if end or len(held) >= HEAD_LIMIT:
+            break
+    if not _START_LINE.match(held, start):
+        return Front(), bytes(held)
+    if end is None:
+        return Front(None, len(held), True), b""
+    return Front(bytes(held[start : end.start()]), end.end()), bytes(held[end.end() :])
 
 
 class Message:
-    """The block of a record, which is given in pieces, and read once: an HTTP head, if it has one, and a body."""
+    """A block that is given in pieces, and read once: an HTTP head, if it has one, and a body.
 
-    def __init__(self, block: Iterator[bytes], is_http: bool) -> None:
-        self._head, self._body = HeadReader(), block
+    `truncated` says why its record is truncated, if it is.
+    """
+
+    def __init__(self, block: Iterator[bytes], is_http: bool, truncated: Optional[str] = None) -> None:
+        self.body = block  # without what precedes the body, once that was read
+        self._is_http = is_http
+        self._truncated = truncated
         self._decoder = Decoder(())
-        if is_http:
-            pieces = (self._head.feed(piece) for piece in block)
-            first = next((piece for piece in pieces if self._head.is_read), None)
-            first = self._head.end() if first is None else first
-            self._body = itertools.chain((first,) if first else (), block)
-
-    @property
-    def head_text(self) -> Optional[bytes]:
-        return self._head.text
+        self._is_taken = False
 
     @functools.cached_property
-    def head(self) -> Optional[HttpHead]:
-        return None if self._head.text is None else HttpHead.of(self._head.text)
+    def front(self) -> Front:
+        """What precedes the body. It is read when it is first asked for."""
+        if not self._is_http:
+            return Front()
+        front, first = read_front(self.body)
+        self.body = itertools.chain((first,) if first else (), self.body)
+        return front
 
-    def stored_length(self, block: int) -> Optional[int]:
-        """Returns the bytes of `stored_payload` in a block of `block` bytes, or None if it has a transfer coding."""
-        return None if self._transfer_codings else block - self._head.size
+    @property
+    def http_head(self) -> Optional[bytes]:
+        """The HTTP head without the empty line at its end, or None if the block has none."""
+        return self.front.text
+
+    @functools.cached_property
+    def http(self) -> Optional[HttpHead]:
+        """The HTTP head, or None if the block has none."""
+        return None if self.front.text is None else HttpHead.of(self.front.text)
 
     @property
     def stored_otherwise(self) -> tuple[str, ...]:
-        """The codings that the head names, and that the body doesn't have, as far as it was read."""
+        """The codings that the head names and the body doesn't have, once its first piece was read."""
         return self._decoder.stored_otherwise
 
     def payload(self, limits: Limits = UNLIMITED) -> Iterator[bytes]:
-        """Yields the body without its codings. Raises Unreadable."""
-        return self._without(self._transfer_codings + self._content_codings, limits)
+        """Yields the body without its codings, as `payload` of a Record returns it. One beyond the limits is Unreadable."""
+        self._take()
+        return self._without(self.transfer_codings + self._content_codings, limits)
 
     def stored_payload(self, limits: Limits = UNLIMITED) -> Iterator[bytes]:
-        """Yields the body without its transfer codings. Raises Unreadable."""
-        return self._without(self._transfer_codings, limits)
+        """Yields the body without its transfer codings only, such as chunks. Its content codings stay."""
+        self._take()
+        return self._without(self.transfer_codings, limits)
 
     def has_content_codings(self, limits: Limits = UNLIMITED) -> bool:
-        """Returns whether the body is known to have all content codings of the head, by its first bytes. They stay to be read."""
-        held: list[bytes] = []
+        """Returns whether the body has all content codings of its head, by its first bytes, which stay to be read.
+
+        If not, or if that can't be known, no field Content-Encoding may be sent with `stored_payload`.
+        """
+        codings, held = self.transfer_codings + self._content_codings, list[bytes]()
+
+        def read() -> Iterator[bytes]:
+            for piece in itertools.islice(self.body, _MOST_HELD):
+                held.append(piece)
+                yield piece
+
         try:
-            decoder = Decoder(self._transfer_codings + self._content_codings, limits)
+            decoder = Decoder(codings, limits)
         except Unreadable:  # they are too many
             return False
         with contextlib.suppress(Unreadable):
-            for piece in itertools.islice(self._body, _MOST_HELD):
-                held.append(piece)
-                if next(decoder.feed(piece), b""):
-                    break
-            else:
-                next(decoder.end(), b"")
-        self._body = itertools.chain(held, self._body)
+            next(decoder.over(read()), None)
+        self.body = itertools.chain(held, self.body)
         return decoder.has_last(len(self._content_codings))
 
     @property
-    def _transfer_codings(self) -> list[str]:
-        return self.head.transfer_codings if self.head else []
+    def transfer_codings(self) -> list[str]:
+        return self.http.transfer_codings if self.http else []
 
     @property
     def _content_codings(self) -> list[str]:
-        return self.head.content_codings if self.head else []
+        return self.http.content_codings if self.http else []
+
+    def _take(self, is_read: bool = False) -> None:
+        if self._is_taken or is_read:
+            raise ValueError("a RecordStream is read once, within its `with`; open the record again")
+        self._is_taken = True
 
     def _without(self, names: Sequence[str], limits: Limits) -> Iterator[bytes]:
-        if self._head.is_endless:
+        if self.front.is_endless:
             raise Unreadable("the HTTP head doesn't end")
         self._decoder = Decoder(names, limits)
-        return decoded(self._decoder, self._body)
+        return Again(self._decoded())
 
-
-def pieces_of(block: bytes) -> Iterator[bytes]:
-    return (block[at : at + PIECE] for at in range(0, len(block), PIECE))
+    def _decoded(self) -> Generator[bytes, None, None]:
+        """Yields the body. If it can't be read, and the record is truncated (ISO 28500:2017, 5.13), the reason says so."""
+        try:
+            yield from self._decoder.over(self.body)
+        except Unreadable as fault:
+            if self._truncated is None:
+                raise
+            raise Unreadable(f"{fault}; the record is truncated: {self._truncated[:40]!r}") from fault

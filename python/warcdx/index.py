@@ -2,23 +2,23 @@
 import contextlib
 import itertools
 import queue
-import threading
 import weakref
 from collections.abc import Callable, Generator, Iterable, Iterator, Sequence
-from typing import Any, NoReturn, Optional, Union
+from typing import TYPE_CHECKING, Any, NoReturn, Optional, Union
 
-from .asked import Asked, parameter_of
+from .asked import Asked, Selection, parameter_of, selecting
 from .errors import Refused, expect_type, number_of
 from .fields import FIELDS
 from .index_files import open_files
 from .iterators import Again
 from .program import Path, find_program, operands
-from .query import MOST_LIMIT, Capture, Page, Query, RowPage, Texts, Value, fits, in_bytes, length_of, one_line, rows_query, split_rows
+from .query import MOST_LIMIT, Capture, Page, Query, RowPage, fits, in_bytes, length_of, one_line, rows_query, split_rows
 from .reported import refused
 from .serve import Serve
-from .stamps import Moment
 
-_LOOK = 0.05  # seconds between two looks at streams that are being read
+if TYPE_CHECKING:
+    from typing_extensions import Unpack
+
 PAGE_SIZE = 5000  # captures that an iterator holds at a time
 _VALUES: dict[str, Callable[[str], object]] = {"length": length_of, "offset": int}
 
@@ -92,103 +92,62 @@ class Index:
         self._turns: queue.SimpleQueue[bool] = queue.SimpleQueue()
         for _ in range(processes):
             self._turns.put(True)
-        self._streams: weakref.WeakKeyDictionary[Again[bytes], int] = weakref.WeakKeyDictionary()  # with the threads that have begun them
+        self._streaming: weakref.WeakSet[Serve] = weakref.WeakSet()  # those of streams that are half read
 
+    @selecting
     def captures(
-        self,
-        url: Optional[str] = None,
-        *,
-        match: Optional[str] = None,
-        since: Moment = None,
-        until: Moment = None,
-        filter: Texts = (),
-        limit: Optional[int] = None,
-        query: Optional[str] = None,
-        page_size: Optional[int] = PAGE_SIZE,
-        **parameters: Value,
+        self, url: Optional[str] = None, *, page_size: Optional[int] = PAGE_SIZE, **selection: "Unpack[Selection]"
     ) -> Iterator[Capture]:
         """Yields the captures that a query selects, in order: as many as `limit`, or all.
 
         They are read page by page, and `page_size` of them are held at a time, or more if the keys at the ends of
         pages are too long for a query. Other queries are answered meanwhile, however slowly the captures are taken.
         """
-        asked = Asked.of(url, query, match, since, until, filter, limit, parameters)
+        asked = Asked.of(url, selection)
         return Again(Capture.of(row) for rows, _ in self._row_pages(asked, FIELDS, page_size) for row in rows)
 
-    def pages(
-        self,
-        url: Optional[str] = None,
-        *,
-        match: Optional[str] = None,
-        since: Moment = None,
-        until: Moment = None,
-        filter: Texts = (),
-        limit: Optional[int] = None,
-        query: Optional[str] = None,
-        page_size: Optional[int] = PAGE_SIZE,
-        **parameters: Value,
-    ) -> Iterator[Page]:
+    @selecting
+    def pages(self, url: Optional[str] = None, *, page_size: Optional[int] = PAGE_SIZE, **selection: "Unpack[Selection]") -> Iterator[Page]:
         """Yields the same captures page by page, each with the resume key of the next page."""
-        asked = Asked.of(url, query, match, since, until, filter, limit, parameters)
+        asked = Asked.of(url, selection)
         return Again(Page(tuple(map(Capture.of, rows)), key) for rows, key in self._row_pages(asked, FIELDS, page_size))
 
-    def page(
-        self,
-        url: Optional[str] = None,
-        *,
-        match: Optional[str] = None,
-        since: Moment = None,
-        until: Moment = None,
-        filter: Texts = (),
-        limit: Optional[int] = None,
-        query: Optional[str] = None,
-        resume_key: Optional[str] = None,
-        **parameters: Value,
-    ) -> Page:
+    @selecting
+    def page(self, url: Optional[str] = None, *, resume_key: Optional[str] = None, **selection: "Unpack[Selection]") -> Page:
         """Returns one page of at most `limit` captures: the first one, or that after a `resume_key` of another page."""
         if resume_key is not None:
-            parameters["resumeKey"] = resume_key
-        asked = Asked.of(url, query, match, since, until, filter, limit, parameters)
+            selection["resumeKey"] = resume_key
+        asked = Asked.of(url, selection)
         rows, key = self._page(asked.query, FIELDS, asked.limit)
         return Page(tuple(map(Capture.of, rows)), key)
 
+    @selecting
     def rows(
         self,
         fields: Union[str, Sequence[str]],
         url: Optional[str] = None,
         *,
-        match: Optional[str] = None,
-        since: Moment = None,
-        until: Moment = None,
-        filter: Texts = (),
-        limit: Optional[int] = None,
-        query: Optional[str] = None,
         page_size: Optional[int] = PAGE_SIZE,
-        **parameters: Value,
+        **selection: "Unpack[Selection]",
     ) -> Iterator[list[str]]:
         """Yields the values of these fields of each capture that a query selects, as texts."""
-        asked = Asked.of(url, query, match, since, until, filter, limit, parameters)
+        asked = Asked.of(url, selection)
         return Again(row for rows, _ in self._row_pages(asked, _fields_of(fields), page_size) for row in rows)
 
+    @selecting
     def columns(
         self,
         fields: Union[str, Sequence[str]] = FIELDS,
         url: Optional[str] = None,
         *,
-        match: Optional[str] = None,
-        since: Moment = None,
-        until: Moment = None,
-        filter: Texts = (),
-        limit: Optional[int] = None,
-        query: Optional[str] = None,
         page_size: Optional[int] = PAGE_SIZE,
-        **parameters: Value,
+        **selection: "Unpack[Selection]",
     ) -> dict[str, list[Any]]:
         """Returns a list for each of these fields: its values of all captures that a query selects, up to `limit`.
 
         The lists have the order of the captures, and values as those of a Capture. All of them are held in memory.
         """
-        asked = Asked.of(url, query, match, since, until, filter, limit, parameters)
+        asked = Asked.of(url, selection)
         columns: dict[str, list[Any]] = {field: [] for field in _fields_of(fields)}
         for rows, _ in self._row_pages(asked, tuple(columns), page_size):
             for column, values in zip(columns.values(), zip(*rows)):
@@ -197,20 +156,10 @@ class Index:
             columns[field] = list(map(_VALUES[field], columns[field]))
         return columns
 
-    def count(
-        self,
-        url: Optional[str] = None,
-        *,
-        match: Optional[str] = None,
-        since: Moment = None,
-        until: Moment = None,
-        filter: Texts = (),
-        limit: Optional[int] = None,
-        query: Optional[str] = None,
-        **parameters: Value,
-    ) -> int:
+    @selecting
+    def count(self, url: Optional[str] = None, **selection: "Unpack[Selection]") -> int:
         """Returns how many captures a query selects, up to `limit`."""
-        asked = Asked.of(url, query, match, since, until, filter, limit, parameters)
+        asked = Asked.of(url, selection)
         return sum(len(rows) for rows, _ in self._row_pages(asked, ("offset",), PAGE_SIZE))
 
     def __iter__(self) -> Iterator[Capture]:
@@ -232,19 +181,19 @@ class Index:
     def stream(self, query: str) -> Iterator[bytes]:
         """Yields a page as `warcdx query` writes it, in pieces as the program writes them.
 
-        It is read by one query, whose process answers no other until the last piece is taken or the iterator is
+        It is read by one query, which has a process to itself until the last piece is taken or the iterator is
         closed. `seconds` is the time for each piece, and `most` bounds none.
         """
-        pieces = Again(self._stream(query))
-        self._streams[pieces] = threading.get_ident()
-        return pieces
+        return Again(self._stream(query))
 
     def _stream(self, query: str) -> Generator[bytes, None, None]:
         line, asked = _line_of(query), Query.of(query, {})
-        with self._turn(asked) as serve, contextlib.closing(serve.stream(line, asked.has("output", "json"), self.seconds)) as pieces:
+        with self._lent(asked) as serve, contextlib.closing(serve.stream(line, asked.has("output", "json"), self.seconds)) as pieces:
+            self._streaming.add(serve)
             for piece in pieces:
                 yield piece
                 self._expect_open()
+            self._streaming.discard(serve)
 
     def _expect_open(self) -> None:
         if self._is_closed:
@@ -262,14 +211,12 @@ class Index:
         A stream that isn't read to its end is ended too: it raises ValueError then.
         """
         self._is_closed = True
+        for serve in list(self._streaming):
+            serve.close()
         taken = list[bool]()
         try:
             while len(taken) < self._processes:
-                with contextlib.suppress(RuntimeError):  # another thread begins one meanwhile
-                    for stream in list(self._streams):
-                        stream.fail(ValueError("the Index is closed"))
-                with contextlib.suppress(queue.Empty):
-                    taken.append(self._turns.get(timeout=_LOOK))
+                taken.append(self._turns.get())
             while self._idle:
                 self._idle.pop().end()
             self._close_files()
@@ -316,33 +263,32 @@ class Index:
 
     @contextlib.contextmanager
     def _turn(self, query: Query) -> Iterator[Serve]:
-        """Yields a process that was idle, or a new one, to answer a query. A refusal names its parameter."""
-        turns, serve = list[bool](), None
-        if self._has_only_half_read_streams():
-            raise ValueError("a stream of this thread is half read: read it to its end, close it, or give the Index more processes")
+        """Yields a process to answer a query, after those that are being answered if these are as many as `processes`."""
+        turns = list[bool]()
         try:
             # One step of the interpreter, so that no interrupt comes when a turn is taken, and before it is noted.
             turns.extend(itertools.islice(iter(self._turns.get, None), 1))
-            self._expect_open()
-            serve = self._last_used()
+            with self._lent(query) as serve:
+                yield serve
+        finally:
+            for turn in turns:
+                self._turns.put(turn)
+
+    @contextlib.contextmanager
+    def _lent(self, query: Query) -> Iterator[Serve]:
+        """Yields a process that was idle, or a new one, to answer a query. A refusal names its parameter."""
+        self._expect_open()
+        serve = self._last_used()
+        try:
             serve.waits = self.waits
             yield serve
         except Refused as error:
             raise refused(error.name, parameter_of(error.name, query)) from None
         finally:
-            try:
-                if serve is not None:
-                    self._idle.append(serve)
-            finally:
-                for turn in turns:
-                    self._turns.put(turn)
-
-    def _has_only_half_read_streams(self) -> bool:
-        """Returns whether streams of this thread have all processes, so that it would wait for itself."""
-        with contextlib.suppress(RuntimeError):  # another thread begins one meanwhile
-            threads = [thread for stream, thread in self._streams.items() if stream.is_half_read()]
-            return threads.count(threading.get_ident()) >= self._processes
-        return False
+            if self._is_closed or len(self._idle) >= self._processes:
+                serve.end()
+            else:
+                self._idle.append(serve)
 
     def _last_used(self) -> Serve:
         try:

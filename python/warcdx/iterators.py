@@ -28,20 +28,6 @@ class Again(Iterator[_Item]):
                 self._error = _kept(error)
             raise
 
-    def is_half_read(self) -> bool:
-        """Returns whether it has given something, may give more, and no thread advances it now."""
-        import inspect
-
-        return inspect.getgeneratorstate(self._items) == inspect.GEN_SUSPENDED
-
-    def fail(self, error: Exception) -> None:
-        """Ends the iterator by this error, unless it is at its end, or another thread advances it."""
-        if not self._is_ended():
-            with contextlib.suppress(type(error), ValueError):
-                self._items.throw(error)
-            if self._is_ended():
-                self._error = error
-
     def close(self) -> None:
         """Ends the iterator, and what it reads from."""
         self._items.close()

@@ -6,7 +6,7 @@ from typing import IO, Union
 
 from .program import Path, find_program, operands, running
 from .streams import whole
-from .temporary import temporary_folder
+from .temporary import path_of, unnamed_file
 
 MOST = 1000  # indexes that are merged at a time: the program takes 1,024, and many systems as many open files
 
@@ -17,12 +17,12 @@ def merged(indexes: Union[Path, Iterable[Path]], program: str = "warcdx") -> Ite
     with contextlib.ExitStack() as stack:
         files = operands(indexes)
         while len(files) > MOST:
-            folder = stack.enter_context(temporary_folder())
             groups = [files[start : start + MOST] for start in range(0, len(files), MOST)]
-            files = [f"{folder}/{number}" for number in range(len(groups))]
-            for path, group in zip(files, groups):
-                with open(path, "wb") as output:
-                    merge(group, output, program=program)
+            parts = [stack.enter_context(unnamed_file()) for _ in groups]
+            for part, group in zip(parts, groups):
+                merge(group, part, program=program)
+                part.flush()
+            files = list(map(path_of, parts))
         yield stack.enter_context(running(find_program(program), "merge", *files))
 
 

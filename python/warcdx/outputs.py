@@ -2,7 +2,6 @@
 import contextlib
 import errno
 import os
-import secrets
 from collections.abc import Iterator
 from typing import BinaryIO, Optional
 
@@ -12,21 +11,16 @@ from .streams import OutputError
 STANDARD = "-"  # the name of standard output, and of standard input
 
 
-@contextlib.contextmanager
-def output_of(path: Optional[str], standard: BinaryIO) -> Iterator[BinaryIO]:
-    """Yields what a command writes to: a new file, or standard output if none is named. Raises OSError."""
-    if path is None or path == STANDARD:
-        yield standard
-        return
-    with new_file(path) as file:
-        yield file
+def output_of(path: Optional[str], standard: BinaryIO) -> contextlib.AbstractContextManager[BinaryIO]:
+    """Opens what a command writes to: a new file, or standard output if none is named. Raises OSError."""
+    return contextlib.nullcontext(standard) if path is None or path == STANDARD else new_file(path)
 
 
 @contextlib.contextmanager
 def new_file(path: str) -> Iterator[BinaryIO]:
     """Makes a file that has its name once it is whole. Raises FileExistsError if anything has the name."""
     check_that_it_is_new(path)
-    begun = os.path.join(os.path.dirname(path), f".warcdx-output-{secrets.token_hex(8)}")
+    begun = os.path.join(os.path.dirname(path), f".warcdx-output-{os.urandom(8).hex()}")
     with contextlib.ExitStack() as stack:
         try:
             with blocked():

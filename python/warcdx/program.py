@@ -1,22 +1,22 @@
 """Finds the program, and runs it."""
 import contextlib
 import errno
+import fcntl
 import functools
 import io
 import os
 import re
 import select
-import subprocess
+import signal
 import sys
 import threading
-import time
-from collections.abc import Callable, Iterable, Iterator
-from typing import IO, Any, Optional, Union, cast
+from collections.abc import Iterable, Iterator
+from typing import IO, Optional, Union, cast
 
-from .ending import blocked, uninterrupted
+from .ending import blocked
 from .errors import NO_STATUS, Error, ProgramError, ProgramMissing, ProgramTooOld, ReplyTooLate, expect_type
 from .reported import error_of
-from .streams import whole
+from .streams import Watched, whole
 
 Path = Union[str, os.PathLike[str]]
 
@@ -24,7 +24,7 @@ PACKED = "warcdx-gz"  # the program that reads compressed archives too
 LEAST_VERSION = (0, 1, 0)
 _PIECE = 1 << 20  # bytes of an output
 _SCARCE = (errno.EMFILE, errno.ENFILE, errno.EAGAIN)  # too many files or processes
-_PAUSE = 0.01  # seconds between two looks at a program that may end
+PIPE = -1  # stands for a pipe to the standard input of a program
 _names: dict[str, str] = {}  # of the programs that were found, by their paths
 _HELP = re.compile(rb"(warcdx|warcdx-gz) ([0-9]+)\.([0-9]+)\.([0-9]+)")
 
@@ -68,28 +68,17 @@ def find_packed_program(program: Path) -> str:
     If it is that of warcdx, warcdx-gz is in the same folder, or else where `find_program` finds it.
     """
     path = _located(program)
-    beside = os.path.join(os.path.dirname(path), PACKED)
-    if os.path.basename(path) == "warcdx" and executable(beside):  # so what isn't used needn't be run
+    beside = executable(os.path.join(os.path.dirname(path), PACKED))
+    if os.path.basename(path) == "warcdx" and beside:  # so what isn't used needn't be run
         return find_program(beside)
-    return find_program(packed_program_of(find_program(path)))
-
-
-def packed_program_of(path: str) -> str:
-    """Returns the path of warcdx-gz from that of either program, or its name alone if it isn't in the same folder."""
-    if check_version(path) == PACKED:
-        return path
-    beside = os.path.join(os.path.dirname(path), PACKED)
-    return beside if os.access(beside, os.X_OK) else PACKED
+    return path if check_version(path) == PACKED else find_program(beside or PACKED)
 
 
 @functools.lru_cache(maxsize=None)
 def check_version(path: str) -> str:
     """Returns which of the programs a file is. Raises ProgramMissing or ProgramTooOld."""
-    try:
-        done = subprocess.run((path, "--help"), stdin=subprocess.DEVNULL, stdout=subprocess.PIPE, stderr=subprocess.DEVNULL)
-    except OSError as error:
-        raise _not_started(path, error) from error
-    found = _HELP.match(done.stdout)
+    with memory_file() as nothing, Process((path, "--help"), nothing.fileno()) as process:
+        found = _HELP.match(process.stdout.read())
     if not found:
         raise ProgramMissing(f"{path}: not the program warcdx")
     version = tuple(map(int, found.groups()[1:]))
@@ -121,101 +110,148 @@ def operands(paths: Union[Path, Iterable[Path]]) -> list[str]:
     return [operand(cast(Path, paths))]
 
 
-class Process(subprocess.Popen[bytes]):
-    """A program. Its `returncode` is NO_STATUS, and never 0, if the system doesn't give its exit status.
+class Process:
+    """A program that runs. `stdout` is what it writes, and `stdin` what it reads, if it is started with a pipe for that.
 
-    That is so if this process ignores SIGCHLD, or another part of it has waited for all processes. Popen takes such a
-    program for one that has succeeded.
+    When this process ends, however it does, the program finds its input at the end or its output closed, and ends too. It is
+    ended, and its files are closed, at the end of a block, or when nobody has the Process any more.
     """
 
-    def __init__(self, *arguments: Any, **options: Any) -> None:
-        self.path: str = arguments[0][0]
-        self._turn = threading.Lock()  # of the one thread that takes the status
-        super().__init__(*arguments, **options)
+    pid = 0  # until it is started
+    stdin: Optional[IO[bytes]] = None
+    stdout: IO[bytes]
 
-    def __del__(self) -> None:
-        self.stdin = self.stdout = None  # closes them: Popen keeps a process that runs, which would wait for ever
-        super().__del__()  # type: ignore[misc]
+    def __init__(self, command: tuple[str, ...], stdin: Optional[int] = None, descriptors: Iterable[int] = ()) -> None:
+        """Starts the program. Its standard input is this descriptor, or PIPE, or that of this process. It has the others too.
+
+        Raises ProgramMissing, ProgramError if there are too many files or processes, or MemoryError.
+        """
+        self.path, self._starter = command[0], os.getpid()
+        self._status: Optional[int] = None
+        self._turn = threading.Lock()  # of the one thread that takes the status
+        try:
+            # A signal waits until the program is noted here. In the program itself none is blocked.
+            with blocked(), contextlib.ExitStack() as kept, contextlib.ExitStack() as given:
+                self._said = kept.enter_context(memory_file())
+                self.stdout, output = _pipe(kept, given)
+                if stdin == PIPE:
+                    reading, self.stdin = _pipe(given, kept)
+                    stdin = reading.fileno()
+                streams = (stdin, output.fileno(), self._said.fileno())
+                actions: list[tuple[int, ...]] = [(os.POSIX_SPAWN_CLOSE, each) for each in _inherited()]
+                actions += [(os.POSIX_SPAWN_DUP2, each, number) for number, each in enumerate(streams) if each is not None]
+                actions += [(os.POSIX_SPAWN_DUP2, each, each) for each in descriptors]  # so it stays open
+                self.pid = os.posix_spawnp(
+                    self.path, command, os.environ, file_actions=actions, setsigmask=(), setsigdef=(signal.SIGPIPE, signal.SIGXFSZ)
+                )
+                self._files = kept.pop_all()
+        except OSError as error:
+            raise _not_started(self.path, error) from error
+
+    def communicate(self, data: bytes) -> bytes:
+        """Writes to the program while it reads, closes its input, and returns all that it writes."""
+        assert self.stdin is not None
+        os.set_blocking(self.stdin.fileno(), False)
+        poll, left, found = select.poll(), memoryview(data), bytearray()
+        poll.register(self.stdout, select.POLLIN)
+        poll.register(self.stdin, select.POLLOUT)
+        while True:
+            for number, _ in poll.poll():
+                if number == self.stdout.fileno():
+                    piece = os.read(number, _PIECE)
+                    if not piece:
+                        return bytes(found)
+                    found += piece
+                    continue
+                try:
+                    left = left[os.write(number, left) :]
+                except BrokenPipeError:
+                    left = left[:0]
+                if not left:
+                    poll.unregister(number)
+                    self.stdin.close()
 
     def poll(self) -> Optional[int]:
-        if self._has_ended(os.WNOHANG):
-            self._take_status()
-        return self.returncode
+        """Returns the exit status, or None if the program runs. It is NO_STATUS, and never 0, if the system doesn't give it.
 
-    def wait(self, timeout: Optional[float] = None) -> int:
-        if timeout is None and self._has_ended(0):
-            self._take_status()
-        end = time.monotonic() + (timeout or 0)
-        while self.poll() is None:
-            if time.monotonic() > end:
-                raise subprocess.TimeoutExpired(self.args, timeout or 0)
-            time.sleep(_PAUSE)
-        return self.returncode
+        That is so if this process ignores SIGCHLD, or another part of it has waited for all processes.
+        """
+        return self._take_status() if self._has_ended(os.WNOHANG) else None
+
+    def wait(self) -> int:
+        """Waits for the program to end, and returns its exit status as `poll` does."""
+        self._has_ended(0)
+        return self._take_status()
 
     def _has_ended(self, options: int) -> bool:
         """Returns whether the program has ended, and waits for that unless these are WNOHANG. Its status stays to be taken."""
         try:
-            return self.returncode is not None or os.waitid(os.P_PID, self.pid, os.WEXITED | os.WNOWAIT | options) is not None
+            return self._status is not None or os.waitid(os.P_PID, self.pid, os.WEXITED | os.WNOWAIT | options) is not None
         except ChildProcessError:
             return True
 
-    def _take_status(self) -> None:
+    def _take_status(self) -> int:
         with self._turn:  # which an interrupt can't leave locked
-            if self.returncode is None:
+            if self._status is None:
                 try:
-                    self.returncode = os.waitstatus_to_exitcode(os.waitpid(self.pid, 0)[1])
+                    self._status = os.waitstatus_to_exitcode(os.waitpid(self.pid, 0)[1])
                 except ChildProcessError:
-                    self.returncode = NO_STATUS
+                    self._status = NO_STATUS
+            return self._status
+
+    def kill(self) -> None:
+        """Ends the program if it runs, and waits for that."""
+        if self.poll() is None:
+            os.kill(self.pid, signal.SIGKILL)
+            self.wait()
+
+    def error(self) -> Error:
+        """Waits for a program that doesn't go on, and returns what it has reported."""
+        status = self.wait()
+        self._said.seek(0)
+        return error_of(status, os.fsdecode(self._said.read()), _names.get(self.path, "warcdx"))  # a path in it is as it was given
+
+    def end(self) -> None:
+        """Ends the program, and closes its files. A forked process leaves it to its starter."""
+        with blocked():
+            if os.getpid() == self._starter:
+                self.kill()
+            self._files.close()
+
+    def __enter__(self) -> "Process":
+        return self
+
+    def __exit__(self, *error: object) -> None:
+        self.end()
+
+    def __del__(self) -> None:
+        if self.pid:
+            self.end()
 
 
-def start(
-    command: tuple[str, ...],
-    said: IO[bytes],
-    stdin: Optional[int],
-    before: Optional[Callable[[], None]] = None,
-    descriptors: tuple[int, ...] = (),
-) -> Process:
-    """Starts the program, whose standard output is a pipe, and whose standard error goes to the file `said`. It has these descriptors of this process too.
-
-    When this process ends, however it does, the program finds its input at the end or its output closed, and ends
-    too. `before` is called in the new process. It makes a start slow if this process has much memory.
-    """
-    options = {"stdout": subprocess.PIPE, "stderr": said, "preexec_fn": before, "pass_fds": descriptors}
-    try:
-        if stdin != subprocess.PIPE:
-            return Process(command, stdin=stdin, **options)
-        reading, writing = os.pipe()  # Popen would leave its own open if it can't make another one
-        with open(reading, "rb"):
-            pipe = open(writing, "wb")
-            try:
-                process = Process(command, stdin=reading, **options)
-            except BaseException:
-                pipe.close()
-                raise
-            process.stdin = pipe
-            return process
-    except OSError as error:
-        raise _not_started(command[0], error) from error
-    except subprocess.SubprocessError as error:  # the new process had no memory to do what it does first
-        raise MemoryError from error
+def _inherited() -> list[int]:
+    """Returns the descriptors that a program would have too besides the standard streams, such as those of who started this process."""
+    found = list[int]()
+    for number in map(int, os.listdir("/proc/self/fd")):
+        with contextlib.suppress(OSError):  # it is closed again, as that of the list
+            if number > 2 and os.get_inheritable(number):
+                found.append(number)
+    return found
 
 
-@contextlib.contextmanager
-def started(
-    command: tuple[str, ...], said: IO[bytes], stdin: Optional[int], before: Optional[Callable[[], None]] = None
-) -> Iterator[Process]:
-    """Starts the program as `start` does, and ends it at the end of the block, also if a signal ends the command."""
-    process: Optional[Process] = None
-    try:
-        with uninterrupted():  # else Popen may forget the process
-            process = start(command, said, stdin, before)
-        yield process
-    finally:
-        if process is not None:
-            with blocked():
-                process.kill()
-                process.wait()
-                close(process.stdin, process.stdout)
+def _pipe(reader: contextlib.ExitStack, writer: contextlib.ExitStack) -> tuple[IO[bytes], IO[bytes]]:
+    """Makes a pipe, and returns its ends, which these close."""
+    reading, writing = os.pipe()
+    return reader.enter_context(_opened(reading, "rb")), writer.enter_context(_opened(writing, "wb"))
+
+
+def _opened(descriptor: int, mode: str) -> IO[bytes]:
+    """Opens a descriptor, or another one of its file in place of one of a standard stream, which may be closed in this process."""
+    file: IO[bytes] = open(descriptor, mode, 0 if mode == "wb" else -1)
+    if descriptor > 2:
+        return file
+    with file:
+        return _opened(fcntl.fcntl(file, fcntl.F_DUPFD_CLOEXEC, 3), mode)
 
 
 def memory_file() -> IO[bytes]:
@@ -224,44 +260,10 @@ def memory_file() -> IO[bytes]:
     Raises as the start of a program does.
     """
     try:
-        with uninterrupted():
-            return open(os.memfd_create("warcdx"), "w+b")
+        with blocked():
+            return _opened(os.memfd_create("warcdx"), "w+b")
     except OSError as error:
         raise _not_started("a file in memory", error) from error
-
-
-def close(*files: Optional[IO[bytes]]) -> None:
-    """Closes files, of which some may be pipes to a program that has ended."""
-    for file in files:
-        if file is not None:
-            with contextlib.suppress(BrokenPipeError):
-                file.close()
-
-
-def end_of(process: Process, said: IO[bytes]) -> Error:
-    """Waits for a program that doesn't go on, and returns what it has reported."""
-    status = process.wait()
-    said.seek(0)
-    name = _names.get(process.path, "warcdx")
-    return error_of(status, os.fsdecode(said.read()), name)  # a path in it is as it was given
-
-
-class _TimedOutput(io.RawIOBase):
-    """The output of a program that has to write the next piece, or end, within `seconds` each time."""
-
-    def __init__(self, pipe: IO[bytes], seconds: float) -> None:
-        self._number = pipe.fileno()
-        self._seconds = seconds
-        self._poll = select.poll()
-        self._poll.register(self._number, select.POLLIN)
-
-    def readable(self) -> bool:
-        return True
-
-    def readinto(self, room: "bytearray | memoryview") -> int:  # type: ignore[override]
-        if not self._poll.poll(self._seconds * 1000):
-            raise ReplyTooLate(f"the program has written nothing for {self._seconds:g} seconds")
-        return os.readv(self._number, [room])
 
 
 @contextlib.contextmanager
@@ -274,14 +276,15 @@ def running(
     If the output was read to its end, raises what the program has reported, unless its exit status is one
     of the good ones. A program whose output isn't read to its end is ended.
     """
-    with memory_file() as said, started(command, said, stdin) as process:
-        assert process.stdout is not None
-        output: IO[bytes] = process.stdout
-        if seconds is not None:
-            output = io.BufferedReader(_TimedOutput(process.stdout, seconds))
+
+    def end() -> None:
+        raise ReplyTooLate(f"the program has written nothing for {seconds:g} seconds")
+
+    with Process(command, stdin) as process:
+        output = process.stdout if seconds is None else io.BufferedReader(Watched(process.stdout, seconds, end))
         yield output
         if not output.read(1) and process.wait() not in good:
-            raise end_of(process, said)
+            raise process.error()
 
 
 def write_output(output: IO[bytes], *command: str, stdin: Optional[int] = None) -> None:

@@ -1,6 +1,5 @@
 """Query texts, and the captures that a query selects."""
 import datetime
-import re
 from collections.abc import Iterable, Iterator, Sequence
 from dataclasses import dataclass
 from typing import NamedTuple, Optional, Union
@@ -15,7 +14,6 @@ RowPage = tuple[list[list[str]], Optional[str]]  # the rows of a page, and the r
 
 MOST_LIMIT = 1_000_000  # the largest limit of the program
 MOST_TEXT = 65_536  # bytes of a query text
-_LIMIT = re.compile("[0-9]{1,7}")
 _MOST_DIGITS = 20
 
 
@@ -98,14 +96,6 @@ class Query(NamedTuple):
     def has(self, name: str, value: str) -> bool:
         found = self.take(name)[0]
         return found is not None and unquote_plus(found) == value
-
-    def take_limit(self) -> tuple[Optional[int], "Query"]:
-        """Returns the limit, and the query without it. A limit that is to be refused stays in the query."""
-        value, rest = self.take("limit")
-        digits = unquote_plus(value or "")
-        if not _LIMIT.fullmatch(digits) or not 1 <= int(digits) <= MOST_LIMIT or rest.take("limit")[0] is not None:
-            return None, self
-        return int(digits), rest
 
     def with_parameters(self, **parameters: Value) -> "Query":
         return Query((*self.pieces, *Query.of(None, parameters).pieces))

@@ -2,22 +2,21 @@
 import contextlib
 import datetime
 import functools
+import itertools
 import re
 from collections.abc import Generator, Iterator
 from dataclasses import dataclass, field
 from typing import IO, Optional, Union
 
-from .codings import UNLIMITED, Limits, Unreadable
+from .codings import PIECE, UNLIMITED, Limits, Unreadable
 from .errors import expect_type
-from .http_messages import Fields, HttpHead, Message, WithFields, field_of, pieces_of, unfolded
+from .http_messages import HEAD_LIMIT, Fields, HttpHead, Message, WithFields, field_of, unfolded
 from .iterators import Again
 
 __all__ = ["Head", "HttpHead", "Record", "RecordStream", "Unreadable", "payload"]
 
 CLOSING = b"\r\n\r\n"
 HTTP_TYPE = "application/http"
-HEAD_LIMIT = 1_048_576  # bytes of a record's head
-_PIECE = 1 << 16
 _LENGTH = re.compile("[0-9]{1,19}")
 _DATE = re.compile(r"([0-9-]{10}T[0-9:]{8})(?:\.([0-9]{1,9}))?Z")
 
@@ -94,11 +93,11 @@ class Record(Head):
     @functools.cached_property
     def http(self) -> Optional[HttpHead]:
         """The HTTP head of the block, or None if it has none."""
-        return self._message().head
+        return self._message().http
 
     def payload(self, limits: Limits = UNLIMITED) -> bytes:
         """Returns the body without its codings, as `payload` of this module. One beyond the limits is Unreadable."""
-        return b"".join(_said_to_be_cut(self, self._message().payload(limits)))
+        return b"".join(self._message().payload(limits))
 
     @functools.cached_property
     def stored_otherwise(self) -> tuple[str, ...]:
@@ -109,10 +108,11 @@ class Record(Head):
         return message.stored_otherwise
 
     def _message(self) -> Message:
-        return Message(pieces_of(self.block), self.is_http)
+        pieces = (self.block[at : at + PIECE] for at in range(0, len(self.block), PIECE))
+        return Message(pieces, self.is_http, self.field("WARC-Truncated"))
 
 
-class RecordStream:
+class RecordStream(Message):
     """A record that is read as it is taken, so that one of any length takes bounded memory.
 
     One of `whole`, `block`, `payload` and `stored_payload` is called, and once. Before `whole` and `block`, `http` isn't
@@ -125,7 +125,7 @@ class RecordStream:
         self.size = len(head) + len(CLOSING) + self.length + len(CLOSING)  # of the record, in bytes
         self._text = head
         self._rest = rest
-        self._is_taken = False
+        super().__init__(_block_of(rest, self.length), self.head.is_http, self.head.field("WARC-Truncated"))
 
     @classmethod
     def read(cls, output: IO[bytes]) -> Optional["RecordStream"]:
@@ -142,83 +142,37 @@ class RecordStream:
 
     def whole(self) -> Iterator[bytes]:
         """Yields the record as it is stored, in pieces. They end in it if the archive does."""
-        return Again(self._whole())
-
-    def _whole(self) -> Generator[bytes, None, None]:
-        self._take()
-        yield self._text + CLOSING
-        while piece := self._rest.read(_PIECE):
-            yield piece
+        self._take("front" in self.__dict__)
+        pieces = iter(lambda: self._rest.read(PIECE), b"")
+        return Again(piece for piece in itertools.chain((self._text + CLOSING,), pieces))
 
     def block(self) -> Iterator[bytes]:
         """Yields the block in pieces. They have fewer bytes than `length` if the archive ends in them."""
-        return Again(self._block(False))
+        self._take("front" in self.__dict__)
+        return Again(_block_of(self._rest, self.length))
 
     def whole_block(self) -> Iterator[bytes]:
         """Yields the block as `block` does. Raises Unreadable if it has fewer bytes than `length`."""
-        return Again(self._block(True))
-
-    def _block(self, is_whole: bool) -> Generator[bytes, None, None]:
-        self._take()
-        left = self.length
-        for piece in self._pieces():
-            left -= len(piece)
-            yield piece
-        if left and is_whole:
-            raise Unreadable("the archive ends in the record")
-
-    def _take(self, has_head: bool = False) -> None:
-        if self._is_taken or self._rest.closed or not has_head and "_message" in self.__dict__:
-            raise ValueError("a RecordStream is read once, within its `with`; open the record again")
-        self._is_taken = True
-
-    def _pieces(self) -> Iterator[bytes]:
-        left = self.length
-        while left and (piece := self._rest.read(min(left, _PIECE))):
-            left -= len(piece)
-            yield piece
-        self._rest.read(len(CLOSING))  # so that the record was read to its end, where its member is judged
-
-    @property
-    def http_head(self) -> Optional[bytes]:
-        """The HTTP head without the empty line at its end, or None if the block has none."""
-        return self._message.head_text
-
-    @property
-    def http(self) -> Optional[HttpHead]:
-        """The HTTP head, or None if the block has none."""
-        return self._message.head
-
-    @functools.cached_property
-    def _message(self) -> Message:
-        return Message(self._pieces(), self.head.is_http)
-
-    def payload(self, limits: Limits = UNLIMITED) -> Iterator[bytes]:
-        """Yields the body without its codings, as `payload` returns it. One beyond the limits is Unreadable."""
-        self._take(has_head=True)
-        return Again(_said_to_be_cut(self.head, self._message.payload(limits)))
-
-    def stored_payload(self, limits: Limits = UNLIMITED) -> Iterator[bytes]:
-        """Yields the body without its transfer codings only, such as chunks. Its content codings stay."""
-        self._take(has_head=True)
-        return Again(_said_to_be_cut(self.head, self._message.stored_payload(limits)))
+        self._take("front" in self.__dict__)
+        return Again(_block_of(self._rest, self.length, is_whole=True))
 
     @property
     def stored_length(self) -> Optional[int]:
         """The bytes of `stored_payload` in a whole record, or None if a transfer coding hides them."""
-        return self._message.stored_length(self.length)
+        return None if self.transfer_codings else self.length - self.front.size
 
-    def has_content_codings(self, limits: Limits = UNLIMITED) -> bool:
-        """Returns whether the body has all content codings of its head, by its first bytes, which stay to be read.
+    def _take(self, is_read: bool = False) -> None:
+        super()._take(is_read or self._rest.closed)
 
-        If not, or if that can't be known, no field Content-Encoding may be sent with `stored_payload`.
-        """
-        return self._message.has_content_codings(limits)
 
-    @property
-    def stored_otherwise(self) -> tuple[str, ...]:
-        """The codings that the head names and the body doesn't have, once its first piece was read."""
-        return self._message.stored_otherwise
+def _block_of(rest: IO[bytes], length: int, is_whole: bool = False) -> Generator[bytes, None, None]:
+    """Yields the block of a record, from what follows its head."""
+    while length and (piece := rest.read(min(length, PIECE))):
+        length -= len(piece)
+        yield piece
+    rest.read(len(CLOSING))  # so that the record was read to its end, where its member is judged
+    if length and is_whole:
+        raise Unreadable("the archive ends in the record")
 
 
 def without_brackets(url: str) -> str:
@@ -231,17 +185,6 @@ def _length_of(head: Head) -> int:
     if not _LENGTH.fullmatch(value):
         raise Unreadable("the record has no length")
     return int(value)
-
-
-def _said_to_be_cut(head: Head, body: Iterator[bytes]) -> Generator[bytes, None, None]:
-    """Yields a body. If it can't be read, and the record is truncated (ISO 28500:2017, 5.13), the reason says so."""
-    try:
-        yield from body
-    except Unreadable as fault:
-        reason = head.field("WARC-Truncated")
-        if reason is None:
-            raise
-        raise Unreadable(f"{fault}; the record is truncated: {reason[:40]!r}") from fault
 
 
 def payload(record: Union[Record, bytes]) -> bytes:

@@ -4,11 +4,11 @@ import contextlib
 import enum
 import hashlib
 import re
-from collections.abc import Callable, Iterator
+from collections.abc import Iterator
 from typing import TYPE_CHECKING, NamedTuple, Optional, Union
 
 from .codings import Decoder, Limits, Unreadable
-from .http_messages import HeadReader, HttpHead
+from .http_messages import Message
 from .record import Head
 
 if TYPE_CHECKING:
@@ -52,8 +52,10 @@ class Digest(NamedTuple):
         """Returns an object that computes digests of this algorithm."""
         return hashlib.new(self.algorithm, usedforsecurity=False)
 
-    def is_of(self, computed: "_Hash") -> bool:
-        """Returns whether this is the digest that was computed."""
+    def is_of(self, computed: "Optional[_Hash]") -> bool:
+        """Returns whether this is the digest that was computed, if one was."""
+        if computed is None:
+            return False
         base_32 = base64.b32encode(computed.digest()).decode().rstrip("=").lower()
         return self.value in (computed.hexdigest(), base_32)
 
@@ -80,35 +82,56 @@ class Verdicts(NamedTuple):
     payload: Verdict
 
 
-class BlockCheck:
-    """The block of a record, of `length` bytes, which is read in pieces."""
+def verdicts_of(head: Head, length: int, block: Iterator[bytes]) -> Verdicts:
+    """Returns the verdicts on the digests of a record, whose block is given in pieces. Raises Unreadable if it hasn't this length in bytes."""
+    block_digest, payload_digest = _wanted(head, BLOCK_DIGEST), _wanted(head, PAYLOAD_DIGEST)
+    found, left = block_digest.start() if isinstance(block_digest, Digest) else None, length
 
-    def __init__(self, head: Head, length: int) -> None:
-        self._is_revisit = head.kind == "revisit"
-        block, payload = self._digests = _wanted(head, BLOCK_DIGEST), _wanted(head, PAYLOAD_DIGEST)
-        self._computed = block.start() if isinstance(block, Digest) else None
-        self._payload = _Payload(payload, head.is_http, length) if isinstance(payload, Digest) else None
+    def counted() -> Iterator[bytes]:
+        nonlocal left
+        for piece in block:
+            left -= len(piece)
+            if found is not None:
+                found.update(piece)
+            yield piece
 
-    def add(self, piece: bytes) -> None:
-        if self._computed is not None:
-            self._computed.update(piece)
-        if self._payload is not None:
-            self._payload.add(piece)
+    pieces = counted()
+    if isinstance(payload_digest, Digest):
+        payload_digest = _verdict_on_payload(payload_digest, Message(pieces, head.is_http), head.is_http, length)
+    for _ in pieces:
+        pass
+    if left:  # an error of the block may have been taken for one of its codings
+        raise Unreadable("the archive ends in the record")
+    if isinstance(block_digest, Digest):
+        is_empty = head.kind == "revisit" and block_digest.is_of(block_digest.start())  # so writes GNU Wget
+        block_digest = Verdict.SAME if block_digest.is_of(found) else Verdict.EMPTY if is_empty else Verdict.DIFFERS
+    return Verdicts(block_digest, payload_digest)
 
-    def verdicts(self) -> Verdicts:
-        """Returns the verdicts of a whole block."""
-        block, payload = self._digests
-        if isinstance(block, Digest):
-            block = self._compare(block)
-        if isinstance(payload, Digest):
-            payload = Verdict.UNKNOWN if self._payload is None else self._payload.verdict()
-        return Verdicts(block, payload)
 
-    def _compare(self, digest: Digest) -> Verdict:
-        if self._computed is not None and digest.is_of(self._computed):
-            return Verdict.SAME
-        # So writes GNU Wget.
-        return Verdict.EMPTY if self._is_revisit and digest.is_of(digest.start()) else Verdict.DIFFERS
+def _verdict_on_payload(digest: Digest, message: Message, is_http: bool, length: int) -> Verdict:
+    """Compares a digest with a payload: of HTTP with the body as it is stored, and without its transfer codings."""
+    stored, undone, is_same = digest.start(), digest.start(), False
+    codings = message.transfer_codings
+    body = _hashed(message.body, stored)
+    if codings:
+        with contextlib.suppress(Unreadable):
+            for piece in Decoder(codings, Limits(size=2 * length + _MOST_UNPACKED)).over(body):
+                undone.update(piece)
+            is_same = digest.is_of(undone)
+    for _ in body:  # what is behind the end of the codings, or where they can't be undone
+        pass
+    if message.front.is_endless:
+        return Verdict.UNKNOWN
+    if is_same or digest.is_of(stored):
+        return Verdict.SAME
+    return Verdict.UNKNOWN if is_http and message.http_head is None else Verdict.DIFFERS
+
+
+def _hashed(pieces: Iterator[bytes], found: "_Hash") -> Iterator[bytes]:
+    """Yields pieces, and adds them to a digest."""
+    for piece in pieces:
+        found.update(piece)
+        yield piece
 
 
 def _wanted(head: Head, name: str) -> Union[Digest, Verdict]:
@@ -116,52 +139,8 @@ def _wanted(head: Head, name: str) -> Union[Digest, Verdict]:
     field = head.field(name)
     if field is None:
         return Verdict.ABSENT
-    if name == PAYLOAD_DIGEST and _is_elsewhere(head):
+    # The payload of a revisit isn't in it, and of a segment not whole.
+    is_segment = head.kind == "continuation" or head.field("WARC-Segment-Number") is not None
+    if name == PAYLOAD_DIGEST and (head.kind == "revisit" or is_segment):
         return Verdict.ELSEWHERE
     return Digest.of(field) or Verdict.UNKNOWN
-
-
-def _is_elsewhere(head: Head) -> bool:
-    """Returns whether the payload of a record isn't in it, or not whole: of a revisit, or of a segment of a record."""
-    return head.kind in ("revisit", "continuation") or head.field("WARC-Segment-Number") is not None
-
-
-class _Payload:
-    """The payload of a block that is read in pieces: of HTTP the body as it is stored, and without its transfer codings."""
-
-    def __init__(self, digest: Digest, is_http: bool, length: int) -> None:
-        self._digest = digest
-        self._stored, self._undone = digest.start(), digest.start()
-        self._head = HeadReader() if is_http else None
-        self._limits = Limits(size=2 * length + _MOST_UNPACKED)
-        self._decoder: Optional[Decoder] = None
-
-    def add(self, piece: bytes) -> None:
-        if self._head is not None:
-            is_new, piece = not self._head.is_read, self._head.feed(piece)
-            if is_new and self._head.text is not None:
-                self._start_decoder(HttpHead.of(self._head.text).transfer_codings)
-        self._stored.update(piece)
-        self._undo(lambda decoder: decoder.feed(piece))
-
-    def verdict(self) -> Verdict:
-        if self._head is not None:
-            self._stored.update(self._head.end())
-            if self._head.is_endless:
-                return Verdict.UNKNOWN
-        self._undo(lambda decoder: decoder.end())
-        if self._digest.is_of(self._stored) or self._decoder is not None and self._digest.is_of(self._undone):
-            return Verdict.SAME
-        return Verdict.UNKNOWN if self._head is not None and self._head.text is None else Verdict.DIFFERS
-
-    def _start_decoder(self, names: list[str]) -> None:
-        with contextlib.suppress(Unreadable):
-            self._decoder = Decoder(names, self._limits) if names else None
-
-    def _undo(self, pieces: Callable[[Decoder], Iterator[bytes]]) -> None:
-        """Adds to the body without its transfer codings, until they can't be undone."""
-        try:
-            for piece in pieces(self._decoder) if self._decoder is not None else ():
-                self._undone.update(piece)
-        except Unreadable:
-            self._decoder = None

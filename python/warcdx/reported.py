@@ -27,16 +27,12 @@ def fault(name: str, file: Optional[str] = None, offset: Optional[int] = None, n
     return faults.BY_NAME.get(name, Fault)(name, file, offset, number)
 
 
-def advice_in(said: str) -> str:
-    """Returns the second line of a message, unless it is the system's reason, or an empty text."""
-    last = said.removesuffix("\n").rpartition("\n")[2]
-    return last[2:] if last.startswith("  ") and not re.fullmatch(_SYSTEM, last) else ""
-
-
 def error_of(status: int, said: str, program: str = "warcdx") -> Error:
     """Returns what a program of this name has reported on standard error before it ended."""
     if found := re.fullmatch(_QUERY, said):
-        return refused(found[1])
+        refusal = refused(found[1])
+        refusal.advice = found["advice"] or refusal.advice
+        return refusal
     if found := re.fullmatch(_FAULT_AT, said, re.DOTALL):
         error = fault(found[3], found[1], int(found[2]))
     elif found := re.fullmatch(_LINE_AT, said, re.DOTALL):

@@ -11,7 +11,7 @@ from collections.abc import Mapping, Sequence
 from typing import Any, NamedTuple, Optional
 
 from .faults import cannot_open
-from .files import Path, is_regular, open_at_once, remove, write_new, write_to_disk
+from .files import Path, is_regular, made, open_at_once, remove, write_to_disk
 
 CURRENT = "current"  # leads to the folder of the state that is the index now
 FOLDERS = STATES, RUNS = "states", "runs"
@@ -74,10 +74,7 @@ def files_of(index: Path) -> list[str]:
 
 def shown(folder: str) -> Optional[int]:
     """Returns the number of the state to which `current` leads. It is 0 if that isn't there, and None if `current` isn't a link to one."""
-    try:
-        found = _LINK.fullmatch(os.readlink(f"{folder}/{CURRENT}"))
-    except OSError:
-        return None
+    found = _LINK.fullmatch(_target_of(f"{folder}/{CURRENT}"))
     if found is None:
         return None
     return int(found[1]) if os.path.exists(f"{folder}/{CURRENT}") else 0
@@ -85,7 +82,15 @@ def shown(folder: str) -> Optional[int]:
 
 def is_link(path: str) -> bool:
     """Returns whether a path is a link that leads to a state, or led to one."""
-    return os.path.islink(path) and _LINK.fullmatch(os.readlink(path)) is not None
+    return _LINK.fullmatch(_target_of(path)) is not None
+
+
+def _target_of(path: str) -> str:
+    """Returns where a link leads, or an empty text for something else."""
+    try:
+        return os.readlink(path)
+    except OSError:
+        return ""
 
 
 def show(folder: str, number: int, runs: Sequence[Listed], summary: Mapping[str, Any]) -> None:
@@ -96,10 +101,12 @@ def show(folder: str, number: int, runs: Sequence[Listed], summary: Mapping[str,
         if not _has_link(state, run.file):
             os.symlink(f"../../{RUNS}/{run.file}", f"{state}/{run.file}")
     if not runs and not is_regular(f"{state}/{_EMPTY}", 0):
-        write_new(f"{state}/{_EMPTY}", ())
+        with made(f"{state}/{_EMPTY}"):
+            pass
     for name, values in ((MANIFEST, _manifest_of(number, runs)), (SUMMARY, summary)):
         remove(f"{state}/{name}")
-        write_new(f"{state}/{name}", [json.dumps(values, indent=1), "\n"])
+        with made(f"{state}/{name}") as file:
+            file.write(json.dumps(values, indent=1).encode() + b"\n")
     if is_link(link):
         os.remove(link)
     for each in (state, f"{folder}/{STATES}"):
@@ -137,7 +144,7 @@ def _manifest_of(number: int, runs: Sequence[Listed]) -> dict[str, Any]:
 
 def _has_link(state: str, name: str) -> bool:
     """Returns whether the folder of a state has its link to a run."""
-    return os.path.islink(f"{state}/{name}") and os.readlink(f"{state}/{name}") == f"../../{RUNS}/{name}"
+    return _target_of(f"{state}/{name}") == f"../../{RUNS}/{name}"
 
 
 def remove_before(folder: str, number: int) -> None:

@@ -6,7 +6,8 @@ import json
 import os
 import select
 import sys
-from typing import IO, cast
+from collections.abc import Callable
+from typing import IO, Optional, cast
 
 _BUFFER = 1 << 16  # bytes
 
@@ -15,45 +16,43 @@ class OutputError(OSError):
     """Standard output can't be written."""
 
 
-class _StandardInput(io.RawIOBase):
-    """Standard input. Where reading doesn't wait, as of a pipe that its other users have set so, this waits."""
+class _Standard(io.RawIOBase):
+    """Standard input or output. Where reading or writing doesn't wait, as of a pipe that its other users have set so, this waits."""
+
+    def __init__(self, number: int) -> None:
+        self._number = number
 
     def readable(self) -> bool:
-        return True
+        return self._number == 0
+
+    def writable(self) -> bool:
+        return self._number == 1
 
     def fileno(self) -> int:
-        return 0
+        return self._number
 
     def readinto(self, room: "bytearray | memoryview") -> int:  # type: ignore[override]
         while True:
             try:
                 return os.readv(0, [room])
             except BlockingIOError:
-                _wait_for(0, select.POLLIN)
-
-
-class _StandardOutput(io.RawIOBase):
-    def writable(self) -> bool:
-        return True
-
-    def fileno(self) -> int:
-        return 1
+                is_ready(0, select.POLLIN)
 
     def write(self, data: "bytes | bytearray | memoryview") -> int:  # type: ignore[override]
         while True:
             try:
                 return os.write(1, data)
             except BlockingIOError:
-                _wait_for(1, select.POLLOUT)
+                is_ready(1, select.POLLOUT)
             except OSError as error:
                 raise OutputError(error.errno, error.strerror) from None
 
 
-def _wait_for(descriptor: int, event: int) -> None:
-    """Waits until a file can be read or written, or has ended."""
+def is_ready(file: "int | IO[bytes]", event: int, seconds: Optional[float] = None) -> bool:
+    """Waits until a file can be read or written, or has ended, or for these seconds, and returns whether it can."""
     poll = select.poll()
-    poll.register(descriptor, event)
-    poll.poll()
+    poll.register(file, event)
+    return bool(poll.poll(None if seconds is None else seconds * 1000))
 
 
 class _StandardError(io.RawIOBase):
@@ -86,8 +85,8 @@ def open_closed_streams() -> None:
 def replace_standard_streams() -> io.BufferedWriter:
     """Returns standard output."""
     # Unbuffered, a file of Python writes a part of what it is given. This one writes all of it.
-    output = io.BufferedWriter(_StandardOutput(), _BUFFER)
-    sys.stdin = io.TextIOWrapper(io.BufferedReader(_StandardInput(), _BUFFER))
+    output = io.BufferedWriter(_Standard(1), _BUFFER)
+    sys.stdin = io.TextIOWrapper(io.BufferedReader(_Standard(0), _BUFFER))
     sys.stdout = io.TextIOWrapper(output, "utf-8", "surrogateescape", "\n", write_through=True)
     errors = io.BufferedWriter(_StandardError())
     sys.stderr = io.TextIOWrapper(errors, "utf-8", "backslashreplace", "\n", line_buffering=True)
@@ -101,7 +100,7 @@ def write_error(data: "bytes | bytearray | memoryview") -> bool:
             try:
                 data = data[os.write(2, data) :]
             except BlockingIOError:
-                _wait_for(2, select.POLLOUT)
+                is_ready(2, select.POLLOUT)
     return not data
 
 
@@ -156,3 +155,20 @@ def whole(output: IO[bytes]) -> IO[bytes]:
         raise TypeError(f"the output is a file that is open to write bytes, and not {output!r:.60}")
     given: object = output
     return cast("IO[bytes]", _Whole(given)) if isinstance(given, io.RawIOBase) else output
+
+
+class Watched(io.RawIOBase):
+    """The output of a program. Each time that nothing has come for some seconds, `look` is called, which may raise an error."""
+
+    def __init__(self, pipe: IO[bytes], seconds: float, look: Callable[[], None]) -> None:
+        self._pipe = pipe
+        self._seconds = seconds
+        self._look = look
+
+    def readable(self) -> bool:
+        return True
+
+    def readinto(self, room: "bytearray | memoryview") -> int:  # type: ignore[override]
+        while not is_ready(self._pipe, select.POLLIN, self._seconds):
+            self._look()
+        return os.readv(self._pipe.fileno(), [room])

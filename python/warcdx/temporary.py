@@ -1,7 +1,6 @@
-"""Folders and copies of files that are gone when a block ends, also if a signal ends the command."""
+"""Files without names, of which nothing stays however a command ends."""
 import contextlib
 import os
-import pathlib
 import shutil
 import tempfile
 from collections.abc import Iterator
@@ -10,24 +9,21 @@ from typing import IO
 from .ending import blocked
 
 
-@contextlib.contextmanager
-def temporary_folder() -> Iterator[pathlib.Path]:
-    """Makes a folder for files, and removes it and them."""
-    with contextlib.ExitStack() as stack:
-        try:
-            with blocked():
-                folder = stack.enter_context(tempfile.TemporaryDirectory(prefix="warcdx-"))
-            yield pathlib.Path(folder)
-        finally:
-            with blocked():
-                stack.close()
+def unnamed_file() -> IO[bytes]:
+    """Makes a file. A signal waits, since the file has a name for a moment on some file systems."""
+    with blocked():
+        return tempfile.TemporaryFile()
+
+
+def path_of(file: IO[bytes]) -> str:
+    """Returns a path that leads to an open file as long as it is open, for other processes too (Linux)."""
+    return f"/proc/{os.readlink('/proc/self')}/fd/{file.fileno()}"
 
 
 @contextlib.contextmanager
 def temporary_copy(source: IO[bytes]) -> Iterator[str]:
-    """Yields the path of a copy of a file that can be read only once, such as a pipe."""
-    with temporary_folder() as folder:
-        path = folder / "copy"
-        with open(path, "wb") as copy:
-            shutil.copyfileobj(source, copy)
-        yield os.fspath(path)
+    """Yields the path of a copy of what can be read only once, such as a pipe."""
+    with unnamed_file() as copy:
+        shutil.copyfileobj(source, copy)
+        copy.flush()
+        yield path_of(copy)

@@ -1,21 +1,22 @@
 """Brings the index of a folder of archives up to date."""
+import contextlib
 import datetime
 import itertools
 import json
 import os
 from collections import defaultdict
-from collections.abc import Callable, Iterable, Iterator, Mapping, Sequence
+from collections.abc import Iterable, Iterator, Mapping, Sequence
 from typing import Any, NamedTuple, Optional
 
 from .progress import Silent
 from .states import MOST_RUNS, shown
 from .update_archives import Found, FoundArchive, find_archives
 from .update_outputs import Single
-from .update_reports import FAILED, GONE, Action, Outcome, Report, Said, damage_of, reason_of
+from .update_reports import FAILED, GONE, Action, Outcome, Report, damage_of, reason_of
 from .update_store import Store
-from .update_tables import Archive, CannotUpdate, Merged, Run, Settings, text_of
-from .update_tasks import Failed, Indexed, Written, index_archives, merge_runs
-from .update_workers import Workers
+from .update_tables import Archive, CannotUpdate, Merged, Run, Settings
+from .update_tasks import Failed, filter_run, index_archives, merge_runs
+from .update_workers import Task, Workers
 
 TRIES = 3  # of a task
 _LEAST = 1 << 16  # bytes of a run on the lowest level
@@ -88,10 +89,11 @@ class Update:
         self._progress = progress
         self._archives: dict[str, Archive] = {}  # those whose runs are whole
 
-    def run(self, removal: Removal, workers: Workers, say: Callable[[Outcome], Said]) -> int:
-        """Indexes what is new, makes the index of all, and says what was done. The faults that were said are known to the next run.
+    @contextlib.contextmanager
+    def done(self, removal: Removal, workers: Workers) -> Iterator[Outcome]:
+        """Indexes what is new, makes the index of all, and yields what was done. No other process updates it before the end.
 
-        Returns the exit status. Raises CannotUpdate, Failed or OSError if nothing was indexed.
+        Raises CannotUpdate, Failed or OSError if nothing was indexed.
         """
         os.scandir(self._settings.folder).close()  # so that nothing is made for a folder that can't be read
         with self._store.locked(self._settings):
@@ -99,9 +101,7 @@ class Update:
                 self._single.begin()
             with workers:
                 outcome = self._run_alone(removal, workers)
-            said = say(outcome)
-            self._store.remember({text_of(each.archive): each.message for each in said.faults if each.is_lasting})
-        return said.status
+            yield outcome
 
     def plan(self, removal: Removal) -> tuple[Plan, Found]:
         """Returns what is to be done. Raises OSError if the folder of archives can't be read."""
@@ -125,19 +125,15 @@ class Update:
         reports += self._index(workers, plan.new)
         failure = None
         try:
-            self._forget(plan.removed)
+            self._store.forget(plan.removed)
+            for name in plan.removed:
+                self._archives.pop(name, None)
             self._publish(workers, self._members(plan, found, reports))
         except (CannotUpdate, Failed, OSError) as error:
             failure = reason_of(error)
         reports.sort(key=lambda report: report.archive)
         is_there = bool(shown(self._store.folder)) if self._single is None else os.path.exists(self._single.path)
         return Outcome(reports, failure, is_there, plan.gone, found.passed, self._store.faults())
-
-    def _forget(self, archives: Sequence[str]) -> None:
-        if archives:
-            self._store.forget(archives)
-        for name in archives:
-            self._archives.pop(name, None)
 
     def _reports_of_others(self, plan: Plan, found: Found) -> Iterator[Report]:
         """Yields a report on each archive that isn't indexed now."""
@@ -175,13 +171,13 @@ class Update:
                         continue
                     for each in batch:
                         self._progress.advance(each.size)
-                        yield self._failure(each.name, reason_of(error), each.size) if error else self._success(each.name)
+                        if error is not None:
+                            yield self._failure(each.name, reason_of(error), each.size)
+                        else:
+                            yield Report.of(each.name, self._archives[each.name], Action.INDEXED)
                 batches = [[each] for each in failed]
         finally:
             self._progress.end()
-
-    def _success(self, name: str) -> Report:
-        return Report.of(name, self._archives[name], Action.INDEXED)
 
     def _try(self, workers: Workers, batches: Sequence[list[FoundArchive]]) -> Iterator[tuple[list[FoundArchive], Optional[Exception]]]:
         """Indexes archives that belong together by one task. Yields them, and why that has failed if it has."""
@@ -194,15 +190,13 @@ class Update:
             try:
                 if isinstance(outcome, Exception):
                     raise outcome
-                self._add(numbers[task], *outcome)
+                written, indexed = outcome
+                self._store.add(numbers[task], written, indexed)
+                for name, state, cause, captures in indexed:
+                    self._archives[name] = Archive(state, cause, captures, numbers[task] if captures else None)
                 yield batches[task], None
             except Exception as error:  # a worker may raise any
                 yield batches[task], error
-
-    def _add(self, number: int, written: Written, indexed: Sequence[Indexed]) -> None:
-        self._store.add(number, written, indexed)
-        for name, state, cause, captures in indexed:
-            self._archives[name] = Archive(state, cause, captures, number if captures else None)
 
     def _members(self, plan: Plan, found: Found, reports: Iterable[Report]) -> dict[str, Any]:
         """Returns the members of a summary that aren't counts of captures."""
@@ -221,32 +215,37 @@ class Update:
         """Makes a state with what is new, unless nothing is, and the one file of it."""
         if lost := sorted(self._store.archives().keys() - self._archives.keys()):
             raise CannotUpdate(f"{len(lost):,} archives can't be indexed anew whose runs are missing or damaged, such as {lost[0]!a}")
+        for run in self._store.runs():
+            if run.left and run.left != run.captures:  # it has captures of archives that were removed or indexed anew
+                (number,) = self._store.reserve(1)
+                names, new = self._store.names_in(run), self._store.new(number)
+                self._store.replace(run, number, self._done(workers, filter_run, self._store.runs_folder, run.file, names, new))
         runs = self._store.runs()
-        unused = [run for run in runs if not run.left]
-        groups = self._groups([run for run in runs if run.left])
-        is_new = not self._store.noted.state or bool(groups or unused) or any(run.since is None for run in runs)
+        unused, used = [run for run in runs if not run.left], [run for run in runs if run.left]
+        number = self._merging.number([run.size for run in used])
+        is_new = not self._store.noted.state or number > 1 or bool(unused) or any(run.since is None for run in runs)
         if is_new or not members.items() <= json.loads(self._store.noted.summary).items():
             now = datetime.datetime.now(datetime.timezone.utc).strftime("%Y-%m-%dT%H:%M:%SZ")
-            merged = [self._merge(workers, group) for group in groups]
+            merged = self._merge(workers, used[:number]) if number > 1 else None
             self._store.publish(merged, unused, {"made": now, **members})
-        if self._single is not None and not self._single.is_current:
-            self._single.take(self._merge(workers, self._store.runs()))
-
-    def _groups(self, runs: Sequence[Run]) -> list[Sequence[Run]]:
-        """Returns the runs that become one, and by itself each further one that has to be written anew."""
-        number = self._merging.number([run.size for run in runs])
-        number = number if number > 1 else 0
-        return [*[runs[:number]] * (number > 0), *([run] for run in runs[number:] if run.is_stale)]
+        if self._single is not None and self._single.state() != self._store.noted.changed:
+            self._single.take(*self._merged(workers, self._store.runs(), self._single.new))
 
     def _merge(self, workers: Workers, runs: Sequence[Run]) -> Merged:
-        """Makes a run of others, without the captures of archives that these have lost. Raises the error of the last try."""
-        sources = [(run.file, self._store.names_in(run) if run.is_stale else None) for run in runs]
-        for left in reversed(range(TRIES)):
-            (number,) = self._store.reserve(1)
-            ((_, outcome),) = workers.run(merge_runs, [(self._program, self._store.runs_folder, sources, self._store.new(number))])
+        (number,) = self._store.reserve(1)
+        return Merged(number, *self._merged(workers, runs, self._store.new(number)), runs)
+
+    def _merged(self, workers: Workers, runs: Sequence[Run], output: str) -> tuple[str, int, int]:
+        files = [run.file for run in runs]
+        path, size, crc_32 = self._done(workers, merge_runs, self._program, self._store.runs_folder, files, output)
+        return path, size, crc_32
+
+    def _done(self, workers: Workers, task: Task, *arguments: Any) -> Any:
+        """Does a task, and returns its result. Raises the error of the last try."""
+        for _ in range(TRIES):
+            ((_, outcome),) = workers.run(task, [arguments])
             if not isinstance(outcome, Exception):
-                path, size, crc_32, filtered = outcome
-                return Merged(number, path, size, crc_32, runs, dict(zip((run.number for run in runs if run.is_stale), filtered)))
+                return outcome
         raise outcome if isinstance(outcome, (Failed, OSError)) else CannotUpdate(reason_of(outcome))
 
 

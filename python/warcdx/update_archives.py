@@ -3,7 +3,8 @@ import itertools
 import os
 import re
 from collections import Counter
-from typing import Any, NamedTuple, Optional
+from collections.abc import Callable
+from typing import Any, NamedTuple, Optional, TypeVar
 
 from .streams import is_text
 from .update_tasks import Failed, State, state_of
@@ -13,6 +14,7 @@ _PACKED = (".gz", ".bz2", ".xz", ".zst", ".br")
 _ENDING = re.compile(r"\.[a-z][a-z0-9]{0,9}", re.ASCII)
 _KINDS = 1000  # endings that are counted by themselves
 _SHOWN = 10  # endings in a line
+_Seen = TypeVar("_Seen")
 _MOST_SEEN = 10_000  # entries of the folders below, if their archives are only counted
 
 
@@ -54,14 +56,12 @@ class Passed:
     def line(self) -> Optional[str]:
         """Returns a line that says what is passed over, or None if nothing is."""
         shown = self._ordered()
-        texts = [f"{count:,} {ending or 'without an ending'}" for ending, count in shown[:_SHOWN]]
-        if others := sum(count for _, count in shown[_SHOWN:]):
-            texts.append(f"{others:,} with other endings")
-        if self.links:
-            texts.append("1 link to a folder" if self.links == 1 else f"{self.links:,} links to folders")
+        counts = [(count, ending or "without an ending") for ending, count in shown[:_SHOWN]]
+        counts.append((sum(count for _, count in shown[_SHOWN:]), "with other endings"))
+        counts.append((self.links, "link to a folder" if self.links == 1 else "links to folders"))
+        texts = [f"{count:,} {what}" for count, what in counts if count]
         if self.below:
-            least = "" if self.is_whole else "at least "
-            texts.append(f"{least}{self.below:,} in folders below, without --recursive")
+            texts.append(f"{'' if self.is_whole else 'at least '}{self.below:,} in folders below, without --recursive")
         return f"passed over: {', '.join(texts)}" if texts else None
 
     def _ordered(self) -> list[tuple[str, int]]:
@@ -86,14 +86,8 @@ class Found(NamedTuple):
 
     def reason_for(self, name: str) -> Optional[str]:
         """Returns why an archive of this name can't be seen, or None if it isn't in a folder that can't be read."""
-        if not self.unreadable:
-            return None
-        end = name.find("/")
-        while end >= 0:
-            if (reason := self.unreadable.get(name[:end])) is not None:
-                return reason
-            end = name.find("/", end + 1)
-        return None
+        above = itertools.accumulate(name.split("/")[:-1], "{}/{}".format)
+        return next(filter(None, map(self.unreadable.get, above)), None)
 
 
 def find_archives(folder: str, recursive: bool, store: str, single: Optional[str] = None) -> Found:
@@ -102,13 +96,15 @@ def find_archives(folder: str, recursive: bool, store: str, single: Optional[str
     The folder `store` isn't entered. The file `single`, given by its real path, is the command's, and doesn't count as passed over.
     Raises OSError if the folder itself can't be read to its end.
     """
-    found, root, own_folder = Found([], {}, Passed()), os.path.realpath(folder), _stat_of(store)
+    found, root, own_folder = Found([], {}, Passed()), os.path.realpath(folder), _seen(os.stat, store)
     waiting, left = [""], _MOST_SEEN
     while waiting and left > 0:
         below = waiting.pop()
         is_counted = bool(below) and not recursive
         try:
-            entries = _entries_of(os.path.join(root, below) if below else root, left if is_counted else None)
+            with os.scandir(os.path.join(root, below) if below else root) as listed:
+                some = itertools.islice(listed, left if is_counted else None)
+                entries = [(entry, entry.is_dir(follow_symlinks=False)) for entry in some]
         except OSError as error:
             if not below:
                 raise
@@ -122,12 +118,12 @@ def find_archives(folder: str, recursive: bool, store: str, single: Optional[str
             is_archive = entry.name.lower().endswith(ENDINGS)
             if is_folder:
                 waiting += [name] * (not _is_same(entry, own_folder))
-            elif _leads_to_folder(entry):
+            elif entry.is_symlink() and os.path.isdir(entry.path):
                 found.passed.links += not is_counted
             elif is_counted:
                 found.passed.below += is_archive
             elif is_archive:
-                found.archives.append(FoundArchive(name, _state_of(entry)))
+                found.archives.append(FoundArchive(name, _seen(state_of, entry.path)))
             elif entry.path != single:
                 found.passed.add(entry.name)
     found.passed.is_whole = left > 0
@@ -135,33 +131,14 @@ def find_archives(folder: str, recursive: bool, store: str, single: Optional[str
     return found
 
 
-def _entries_of(folder: str, most: Optional[int]) -> "list[tuple[os.DirEntry[str], bool]]":
-    """Returns the entries of a folder, or the first ones, and whether each is a folder."""
-    with os.scandir(folder) as entries:
-        return [(entry, entry.is_dir(follow_symlinks=False)) for entry in itertools.islice(entries, most)]
-
-
 def _is_same(entry: "os.DirEntry[str]", folder: Optional[os.stat_result]) -> bool:
     """Returns whether an entry is a folder, which may be there under several names."""
     return folder is not None and entry.inode() == folder.st_ino and os.path.samestat(entry.stat(follow_symlinks=False), folder)
 
 
-def _stat_of(path: str) -> Optional[os.stat_result]:
+def _seen(look: Callable[[str], _Seen], path: str) -> Optional[_Seen]:
+    """Returns what a look at a file gives, or None if it can't be seen. The task that indexes it says why."""
     try:
-        return os.stat(path)
-    except OSError:
+        return look(path)
+    except (OSError, Failed):
         return None
-
-
-def _state_of(entry: "os.DirEntry[str]") -> Optional[State]:
-    try:
-        return state_of(entry.path)
-    except (OSError, Failed):  # the task that indexes it says why
-        return None
-
-
-def _leads_to_folder(entry: "os.DirEntry[str]") -> bool:
-    try:
-        return entry.is_symlink() and entry.is_dir()
-    except OSError:
-        return False

@@ -36,7 +36,6 @@ Exit status:
      another process updates it
 """
 import argparse
-import functools
 import json
 import os
 import re
@@ -44,8 +43,7 @@ from collections import Counter
 from collections.abc import Sequence
 from typing import BinaryIO, Optional
 
-from .command import FAILED, Parser, failure, name_on_disk, number_from, printable, report, run
-from .errors import Error
+from .command import FAILED, Parser, name_on_disk, number_from, printable, report, run
 from .faults import advice_on_name
 from .files import is_in
 from .outputs import expect_folder
@@ -53,9 +51,9 @@ from .program import PACKED, find_packed_program
 from .progress import Lines, Silent, bar_on_terminal
 from .update import Merging, Removal, Update
 from .update_outputs import Single
-from .update_reports import Action, Outcome, Report, Said
+from .update_reports import Action, Outcome, Report
 from .update_store import Store
-from .update_tables import CannotUpdate, Settings
+from .update_tables import CannotUpdate, Settings, text_of
 from .update_tasks import Failed
 from .update_workers import Cluster, Threads, Workers
 
@@ -136,16 +134,6 @@ def removal_of(text: str) -> Removal:
     return Removal(int(found[1]), bool(found[2]))
 
 
-def program_of(given: argparse.Namespace) -> str:
-    """Returns the program that the tasks run. On a cluster, a name without `/` is that of a program on the worker's PATH."""
-    program = find_packed_program(given.program)
-    return PACKED if given.scheduler and os.sep not in given.program else program
-
-
-def progress_of(given: argparse.Namespace) -> Silent:
-    return Silent() if given.quiet else bar_on_terminal() or Lines(NAME)
-
-
 def update(given: argparse.Namespace, output: BinaryIO) -> int:
     settings = Settings(os.path.realpath(given.folder), given.recursive, ",".join(given.types))
     is_folder = not given.single and (os.path.isdir(given.index) or given.index.endswith((".d", "/")))
@@ -153,16 +141,22 @@ def update(given: argparse.Namespace, output: BinaryIO) -> int:
     single = None if is_folder else Single(store, given.index)
     expect_usable(given.folder, settings, store)
     expect_folder(store.folder)
-    program = program_of(given)
-    work = Update(settings, store, single, program, Merging(given.ratio, given.compact), progress_of(given))
+    program = find_packed_program(given.program)
+    if given.scheduler and os.sep not in given.program:
+        program = PACKED  # which is on the PATH of the workers
+    progress = Silent() if given.quiet else bar_on_terminal() or Lines(NAME)
+    work = Update(settings, store, single, program, Merging(given.ratio, given.compact), progress)
     if given.dry_run:
         with store.opened(settings):
             if single is not None:
-                single.expect()
+                single.state()
             print_plan(given, work, output)
         return 0
     workers: Workers = Cluster(given.scheduler) if given.scheduler else Threads(given.jobs)
-    return work.run(given.remove, workers, functools.partial(say, given, output))
+    with work.done(given.remove, workers) as outcome:
+        status, said = say(given, output, outcome)
+        store.remember({text_of(fault.archive): fault.message for fault in said if fault.is_lasting})
+    return status
 
 
 def expect_usable(name: str, settings: Settings, store: Store) -> None:
@@ -201,15 +195,15 @@ def planned_line(word: str, archive: str, is_json: bool) -> bytes:
     return text.encode() + b"\n"
 
 
-def say(given: argparse.Namespace, output: BinaryIO, outcome: Outcome) -> Said:
-    """Reports the faults that are to be said, and what was done. A fault that standard error doesn't take isn't said."""
+def say(given: argparse.Namespace, output: BinaryIO, outcome: Outcome) -> tuple[int, list[Report]]:
+    """Reports what was done. Returns the exit status, and the faults that were said now or before: standard error has taken them."""
     if given.json:
         output.writelines(json.dumps(each.values()).encode() + b"\n" for each in outcome.reports)
         output.flush()
     faults = outcome.faults if given.all_faults else [each for each in outcome.faults if not outcome.is_known(each)]
     lost = {each.archive for each in faults if not report(NAME, line_of(each))}
     status = say_result(given, outcome, faults)
-    return Said(status, [each for each in outcome.faults if each.archive not in lost])
+    return status, [each for each in outcome.faults if each.archive not in lost]
 
 
 def line_of(fault: Report) -> str:
@@ -261,7 +255,5 @@ def main(arguments: Optional[Sequence[str]] = None) -> int:
         except (CannotUpdate, Failed) as error:
             report(NAME, f"{printable(given.index)}: {printable(str(error))}")
             return FAILED
-        except Error as error:
-            return failure(NAME, error)
 
     return run(NAME, work)

@@ -79,13 +79,6 @@ class Outcome(NamedTuple):
         return self.known.get(text_of(report.archive)) == report.message
 
 
-class Said(NamedTuple):
-    """What was said of an outcome: the exit status, and the faults that who runs the command knows of now."""
-
-    status: int
-    faults: list[Report]
-
-
 def reason_of(error: Exception) -> str:
     """Returns why a task has failed."""
     if isinstance(error, (Failed, CannotUpdate)):

@@ -15,11 +15,12 @@ from typing import Any, Optional
 from . import states, update_tables
 from .ending import blocked
 from .files import is_regular, remove, write_to_disk
-from .update_tables import Archive, CannotUpdate, Known, Merged, Noted, Run, Settings, text_of
+from .url_keys import host_of
+from .update_tables import Archive, CannotUpdate, Merged, Noted, Run, Settings, text_of
 from .update_tasks import FIELDS, MOST_VALUES, Indexed, Written, crc_32_of, state_of
 
 DATABASE = "state.db"
-FORM = 2  # of the database
+FORM = 3  # of the database
 MOST_SHOWN = 100  # values of a field in a summary
 _APPLICATION = 0x57434458  # marks the database as one of this command
 _BEGUN = {DATABASE, f"{DATABASE}-journal"}
@@ -48,10 +49,16 @@ class Store:
         return False
 
     def _is_made(self) -> bool:
-        if self._is_filled():
-            return True
-        self._expect_unused(set() if self._ask("SELECT 1 FROM sqlite_master LIMIT 1") else _BEGUN)
-        return False
+        """Returns whether the database has the tables of an index. Raises CannotUpdate if others have changed them."""
+        is_begun = not self._ask("SELECT 1 FROM sqlite_master LIMIT 1")
+        if is_begun or self._ask("PRAGMA application_id") != [(_APPLICATION,)]:
+            self._expect_unused(_BEGUN if is_begun else set())
+            return False
+        if self._ask("PRAGMA user_version") != [(FORM,)]:
+            raise CannotUpdate(f"another version of warcdx-update has made {self.folder}")
+        if not update_tables.are_whole(self._database):
+            raise _changed_by_others(self._path)
+        return True
 
     def _expect_unused(self, begun: "set[str]") -> None:
         """Raises CannotUpdate if the folder has something else than what was begun."""
@@ -63,17 +70,6 @@ class Store:
             raise _changed_by_others(self._path) if os.path.lexists(self._path) else CannotUpdate(f"{self._path} is missing; {_WAY_OUT}")
         if names:
             raise CannotUpdate(f"warcdx-update hasn't made all that is in {self.folder}, and doesn't use it; give another INDEX")
-
-    def _is_filled(self) -> bool:
-        """Returns whether the database has the tables of an index. Raises CannotUpdate if others have changed them."""
-        (application,), (form,) = self._ask("PRAGMA application_id")[0], self._ask("PRAGMA user_version")[0]
-        if application != _APPLICATION or not self._ask("SELECT 1 FROM sqlite_master LIMIT 1"):
-            return False
-        if form != FORM:
-            raise CannotUpdate(f"another version of warcdx-update has made {self.folder}")
-        if not update_tables.are_whole(self._database):
-            raise _changed_by_others(self._path)
-        return True
 
     @contextlib.contextmanager
     def locked(self, settings: Settings) -> Iterator[None]:
@@ -122,7 +118,8 @@ class Store:
 
     @property
     def noted(self) -> Noted:
-        return Noted(*self._ask("SELECT * FROM settings")[0])
+        ((folder, recursive, types, *others),) = self._ask("SELECT * FROM settings")
+        return Noted(Settings(folder, bool(recursive), types), *others)
 
     def archives(self) -> dict[str, Archive]:
         """Returns the archives that were indexed, by their names."""
@@ -184,15 +181,24 @@ class Store:
         with self._transaction():
             self._each("DELETE FROM archives WHERE name = ?", ((name,) for name in archives))
 
-    def publish(self, merged: Sequence[Merged], unused: Sequence[Run], members: Mapping[str, Any]) -> None:
-        """Makes a state without the unused runs, with runs that were made of others, and a summary with these members."""
+    def replace(self, run: Run, number: int, written: Written) -> None:
+        """Adds a run with the captures of another one that the index has still. The states have that one until the next is made."""
+        path, size, crc_32, captures, counts = written
+        self._expect(run.left, captures)
+        with self._transaction():
+            self._add_run(number, path, size, crc_32, captures)
+            self._add_counts(number, counts)
+            self._ask("UPDATE archives SET run = ? WHERE run = ?", number, run.number)
+
+    def publish(self, merged: Optional[Merged], unused: Sequence[Run], members: Mapping[str, Any]) -> None:
+        """Makes a state without the unused runs, with a run that was made of others, and a summary with these members."""
         with self._transaction():
             state = self.noted.state + 1
-            for each in merged:
-                self._add_merged(each)
-            gone = [*unused, *(run for each in merged for run in each.runs)]
-            self._each("DELETE FROM counts WHERE run = ?", ((run.number,) for run in gone))
-            self._each("UPDATE runs SET until = ? WHERE number = ?", ((state, run.number) for run in gone))
+            gone = [(state, run.number) for run in (*unused, *(merged.runs if merged else ()))]
+            if merged is not None:
+                self._add_merged(merged)
+            self._each("UPDATE runs SET until = ? WHERE number = ?", gone)
+            self._ask("DELETE FROM counts WHERE run IN (SELECT number FROM runs WHERE until IS NOT NULL)")
             self._ask("DELETE FROM runs WHERE since IS NULL AND until IS NOT NULL")
             is_changed = bool(gone or self._ask("SELECT 1 FROM runs WHERE since IS NULL") or state == 1)
             self._ask("UPDATE runs SET since = ? WHERE since IS NULL", state)
@@ -214,22 +220,17 @@ class Store:
                     remove(f"{self.runs_folder}/{name}")
             states.remove_before(self.folder, self.noted.state - 1)
 
-    def know(self, found: Known, crc_32: int, state: int) -> None:
-        """Notes by what a file with the runs of a state is known."""
+    def know(self, size: int, crc_32: int) -> None:
+        """Notes by what a file with the runs of the last state is known."""
         with self._transaction():
-            self._ask("INSERT INTO files VALUES (?, ?, ?, ?, ?)", *found, crc_32, state)
+            self._ask("INSERT INTO files VALUES (?, ?, ?)", size, crc_32, self.noted.changed)
             self._ask("DELETE FROM files WHERE rowid <= last_insert_rowid() - ?", _MOST_KNOWN)
 
-    def known(self, found: Known) -> Optional[int]:
-        """Returns the first state with the runs of a file that is known by this, or None."""
-        rows = self._ask("SELECT state FROM files WHERE size = ? AND mtime = ? AND inode = ? ORDER BY rowid DESC", *found)
-        return rows[0][0] if rows else None
-
-    def known_copy(self, path: str, size: int) -> Optional[tuple[int, int]]:
-        """Returns the CRC-32 of a copy of a file that is known, and the first state with its runs, or None."""
-        rows = self._ask("SELECT crc_32, state FROM files WHERE size = ? ORDER BY rowid DESC", size)
+    def known(self, path: str) -> Optional[int]:
+        """Returns the first state with the runs of a file that an update has made, or None for another file."""
+        rows = self._ask("SELECT crc_32, state FROM files WHERE size = ? ORDER BY rowid DESC", os.path.getsize(path))
         found = crc_32_of(path) if rows else 0
-        return next((row for row in rows if row[0] == found), None)
+        return next((state for crc_32, state in rows if crc_32 == found), None)
 
     def _make(self, settings: Settings) -> None:
         with self._transaction():
@@ -292,15 +293,10 @@ class Store:
 
     def _add_merged(self, merged: Merged) -> None:
         """Adds a run that was made of others, with their counts. Raises CannotUpdate if it hasn't the size and captures that it has to have."""
-        number, path, size, crc_32, runs, filtered = merged
-        for each, (*_, counts) in filtered.items():
-            self._ask("DELETE FROM counts WHERE run = ?", each)
-            self._add_counts(each, counts)
-        sizes, counts_of = zip(*(_size_and_captures(run, filtered) for run in runs))
+        number, path, size, crc_32, runs = merged
         numbers = ",".join(str(run.number) for run in runs)
         (captures,) = self._ask(f"SELECT SUM(captures) FROM archives WHERE run IN ({numbers})")[0]
-        if (size, captures) != (sum(sizes), sum(counts_of)):
-            raise CannotUpdate(f"the archives of runs have {captures:,} captures, and the runs {sum(counts_of):,}, or these were changed")
+        self._expect(captures, sum(run.captures for run in runs), size == sum(run.size for run in runs))
         self._add_run(number, path, size, crc_32, captures)
         self._ask(f"UPDATE archives SET run = ? WHERE run IN ({numbers})", number)
         for field in FIELDS:
@@ -309,6 +305,12 @@ class Store:
                 "GROUP BY value ORDER BY captures DESC, value LIMIT ?",
                 number, field, MOST_VALUES,
             )  # fmt: skip
+
+    @staticmethod
+    def _expect(wanted: int, captures: int, is_whole: bool = True) -> None:
+        """Raises CannotUpdate unless runs have as many captures as their archives, and all bytes."""
+        if captures != wanted or not is_whole:
+            raise CannotUpdate(f"the archives of runs have {wanted:,} captures, and the runs {captures:,}, or these were changed")
 
     def _counted(self) -> dict[str, Any]:
         """Returns the counts of a summary."""
@@ -320,9 +322,8 @@ class Store:
         for field in FIELDS:
             order = "value" if field == "years" else "2 DESC, value"
             most = MOST_VALUES if field == "years" else MOST_SHOWN
-            found[field] = dict(
-                self._ask(f"SELECT value, SUM(counts.captures) {in_runs} GROUP BY value ORDER BY {order} LIMIT ?", field, most)
-            )
+            rows = self._ask(f"SELECT value, SUM(counts.captures) {in_runs} GROUP BY value ORDER BY {order} LIMIT ?", field, most)
+            found[field] = {host_of(f"{value})/") or value if field == "hosts" else value: count for value, count in rows}
         counted = {field: self._ask(f"SELECT IFNULL(SUM(counts.captures), 0) {in_runs}", field)[0][0] for field in FIELDS}
         return {**found, "others": {field: captures - count for field, count in counted.items()}}
 
@@ -365,14 +366,6 @@ class Store:
 
 class _Locked(CannotUpdate):
     """Another process has the database."""
-
-
-def _size_and_captures(run: Run, filtered: Mapping[int, Written]) -> tuple[int, int]:
-    """Returns the size in bytes of what a merge takes of a run, and its captures."""
-    if run.number not in filtered:
-        return run.size, run.captures
-    _, size, _, captures, _ = filtered[run.number]
-    return size, captures
 
 
 def _changed_by_others(path: str) -> CannotUpdate:

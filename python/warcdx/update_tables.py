@@ -4,12 +4,11 @@ Types are checked by conditions, as SQLite has no strict tables before version 3
 """
 import json
 import sqlite3
-from collections.abc import Mapping, Sequence
+from collections.abc import Sequence
 from typing import NamedTuple, Optional
 
-from .update_tasks import State, Written
+from .update_tasks import State
 
-Known = tuple[int, int, int]  # a file's size in bytes, time in nanoseconds, and inode, which it keeps under another name or mode
 _CONDITIONS = {
     "TEXT": "typeof({0}) = 'text'",
     "INTEGER": "typeof({0}) = 'integer' AND {0} >= 0",
@@ -21,7 +20,7 @@ _COLUMNS = {
     "archives": "name TEXT, size INTEGER, mtime INTEGER, ctime INTEGER, inode INTEGER, cause TEXT, captures INTEGER, run INTEGER?",
     "counts": "run INTEGER, field TEXT, value TEXT, captures INTEGER",
     "faults": "archive TEXT, message TEXT",
-    "files": "size INTEGER, mtime INTEGER, inode INTEGER, crc_32 INTEGER, state INTEGER",
+    "files": "size INTEGER, crc_32 INTEGER, state INTEGER",
 }
 _ENDS = {
     "runs": ", PRIMARY KEY (number))",
@@ -101,18 +100,12 @@ class Noted(NamedTuple):
     `last` is the largest number that a run was given, `state` the number of the last state, and `changed` that of the first one with its runs.
     """
 
-    folder: str
-    recursive: int
-    types: str
+    settings: Settings
     token: str
     last: int
     state: int
     changed: int
     summary: str
-
-    @property
-    def settings(self) -> Settings:
-        return Settings(self.folder, bool(self.recursive), self.types)
 
 
 class Archive(NamedTuple):
@@ -139,21 +132,15 @@ class Run(NamedTuple):
     left: int
 
     @property
-    def is_stale(self) -> bool:
-        """Whether it has captures of archives that were removed or indexed anew."""
-        return self.left != self.captures
-
-    @property
     def file(self) -> str:
         return f"{self.number:06}.cdxj"
 
 
 class Merged(NamedTuple):
-    """A run that was made of others: the path of its file, its size, its CRC-32, and those of them that were filtered, as they were then."""
+    """A run that was made of others: its number, the path of its file, its size in bytes, its CRC-32, and those others."""
 
     number: int
     path: str
     size: int
     crc_32: int
     runs: Sequence[Run]
-    filtered: Mapping[int, Written]

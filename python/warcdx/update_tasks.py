@@ -1,22 +1,23 @@
 """The tasks of warcdx-update: they index archives, write a run anew without some of them, and merge runs.
 
 A worker on another machine needs the programs, and not this package: a task is sent to it with the functions of this module.
-So this module stands on the standard library alone. All that it is given and returns is of plain values.
+So this module stands on the standard library, and on what is sent of two other modules. All that it is given and returns is of plain values.
 """
-import bisect
 import contextlib
 import io
 import json
 import operator
 import os
 import re
-import select
 import stat
 import subprocess
 import zlib
 from collections import Counter
 from collections.abc import Callable, Iterator, Sequence
-from typing import IO, Optional
+from typing import IO
+
+from .files import made
+from .streams import Watched
 
 FAULT = 1  # the exit status of the program after a damaged archive
 FIELDS = ("hosts", "years", "types", "statuses")  # of which the captures are counted
@@ -33,7 +34,6 @@ _REASON = r"\n  (.*) \(os error [0-9]+\)(?=\n|\Z)"  # the second line of a messa
 _FRONT = operator.itemgetter(slice(256))  # bytes of a value
 _PIECE = 1 << 20  # bytes
 _LARGEST = (1 << 63) - 1  # that SQLite has
-_ROOM = 1 << 16  # bytes, more than the block of a file that the program has begun
 _SILENCE = 5  # seconds without output of the program, and then its archives are checked
 
 Start = Callable[..., "subprocess.Popen[bytes]"]
@@ -69,16 +69,15 @@ def index_archives(
     def find_states() -> list[State]:
         return [state_of(os.path.join(folder, name)) for name in names]
 
-    def expect_no_change() -> None:
+    def expect_no_change() -> None:  # the program would wait for ever for who writes a pipe in the place of an archive
         if find_states() != states:
             raise Failed("the archive was changed while it was indexed")
 
     states = find_states()
     with _new(output) as file:
         lines = _Lines(file, names)
-        with _running((program, "index", *words, *(f"./{name}" for name in names)), folder, start) as (process, said):
-            assert process.stdout is not None
-            for piece in _whole_lines(io.BufferedReader(_Watched(process.stdout, expect_no_change))):
+        with _running((program, "index", *words, *(f"./{name}" for name in names)), folder, start) as (process, pipe, said):
+            for piece in _whole_lines(io.BufferedReader(Watched(pipe, _SILENCE, expect_no_change))):
                 lines.write(piece)
             status, causes, text = _wait(process), _causes_of(said, names), _text_of(said)
         if status not in (0, FAULT) or status and not any(causes.values()):
@@ -89,52 +88,44 @@ def index_archives(
         return written, [(name, state, causes[name], lines.captures[name]) for name, state in zip(names, states)]
 
 
-def merge_runs(
-    program: str, folder: str, runs: Sequence[tuple[str, Optional[list[str]]]], output: str, start: Start = subprocess.Popen
-) -> tuple[str, int, int, list[Written]]:
-    """Merges runs of a folder, some of them without the lines of others than archives of these names.
-
-    Returns the path of the new file, which begins with `output`, its size, its CRC-32, and what is left of those runs. The program
-    reads each run as a check does.
-    """
-    if len(runs) == 1 and runs[0][1] is not None:
-        only = _filter(os.path.join(folder, runs[0][0]), runs[0][1], output)
-        return *only[:3], [only]
-    filtered, files = [], []
-    with contextlib.ExitStack() as stack:
-        for file, names in runs:
-            if names is not None:
-                filtered.append(_filter(os.path.join(folder, file), names, output))
-                stack.callback(os.remove, filtered[-1][0])
-            files.append(file if names is None else os.path.basename(filtered[-1][0]))
-        while len(files) > MOST_MERGED:
-            path, _ = _merge((program, "merge", *files[:MOST_MERGED]), folder, output, start)
-            stack.callback(os.remove, path)
-            files[:MOST_MERGED] = [os.path.basename(path)]
-        path, size = _merge((program, "merge", *files), folder, output, start)
-    return path, size, crc_32_of(path), filtered
-
-
-def _filter(path: str, names: Sequence[str], output: str) -> Written:
+def filter_run(folder: str, run: str, names: Sequence[str], output: str, start: Start = subprocess.Popen) -> Written:
+    """Writes a run of a folder anew, without the lines of other archives than these, into a new file whose path begins with `output`."""
     kept = frozenset(map(_json_of, names))
-    with open(path, "rb") as run, _new(output) as file:
-        lines = _Lines(file)
-        for piece in _whole_lines(run):
-            lines.write(b"".join(line for line in piece.splitlines(keepends=True) if line[line.rfind(_NAME) + len(_NAME) : -2] in kept))
+    with open(os.path.join(folder, run), "rb") as file, _new(output) as new:
+        lines = _Lines(new)
+        for piece in _whole_lines(file):
+            lines.write([line for line in piece if line[line.rfind(_NAME) + len(_NAME) : -2] in kept])
         return lines.end()
 
 
-def _merge(command: Sequence[str], folder: str, output: str, start: Start) -> tuple[str, int]:
-    """Merges indexes, or none, into a new file, and returns its path and size."""
+def merge_runs(program: str, folder: str, files: Sequence[str], output: str, start: Start = subprocess.Popen) -> tuple[str, int, int]:
+    """Merges runs of a folder into a new file, whose path begins with `output`. Returns its path, its size and its CRC-32.
+
+    The program reads each run as a check does.
+    """
+    files = list(files)
+    with contextlib.ExitStack() as stack:
+        while len(files) > MOST_MERGED:
+            path, *_ = _merge((program, "merge", *files[:MOST_MERGED]), folder, output, start)
+            stack.callback(os.remove, path)
+            files[:MOST_MERGED] = [path]
+        merged = _merge((program, "merge", *files), folder, output, start)
+    return merged
+
+
+def _merge(command: Sequence[str], folder: str, output: str, start: Start) -> tuple[str, int, int]:
+    """Merges indexes, or none, into a new file, and returns its path, its size and its CRC-32."""
+    crc_32 = 0
     with _new(output) as file:
         if len(command) > 2:
-            with _running(command, folder, start, file) as (process, said):
+            with _running(command, folder, start) as (process, lines, said):
+                while piece := lines.read(_PIECE):
+                    file.write(piece)
+                    crc_32 = zlib.crc32(piece, crc_32)
                 if status := _wait(process):
-                    file.seek(0, os.SEEK_END)
-                    file.write(bytes(_ROOM))  # raises the error of a file that takes no more bytes, which the program doesn't print
-                    file.flush()
                     raise Failed(_text_of(said) or f"{command[0]} has ended with status {status}")
-        return file.name, file.seek(0, os.SEEK_END)
+        size = file.tell()
+    return file.name, size, crc_32
 
 
 def crc_32_of(path: str) -> int:
@@ -157,24 +148,23 @@ class _Lines:
         self._folder = _json_of(f"{os.path.dirname(names[0])}/")[:-1] if names and "/" in names[0] else b""
         self._counts: dict[str, Counter[bytes]] = {field: Counter() for field in FIELDS}
 
-    def write(self, lines: bytes) -> None:
+    def write(self, lines: Sequence[bytes]) -> None:
         """Writes lines in which the file name of an archive is without the path of its folder."""
-        if not lines:
-            return
-        found, number = _CAPTURE.findall(lines), lines.count(b"\n")
-        if len(found) != number or lines.count(_NAME) != number:
+        text = b"".join(lines)
+        found = _CAPTURE.findall(text)
+        if len(found) != len(lines) or text.count(_NAME) != len(lines):
             raise Failed("the program has written a line that isn't one of an index")
         if self._folder:
-            lines = lines.replace(_NAME + b'"', _NAME + self._folder)
-        tails = self._tails.items()
-        ends = Counter[bytes](line[line.rfind(_NAME) :] for line in lines.splitlines(keepends=True) if len(tails) > 1)
-        for name, tail in tails:
-            self.captures[name] += ends[tail] if ends else lines.count(tail)
-        self._count(*zip(*found))
-        self._file.write(lines)
-        self._size += len(lines)
-        self._crc_32 = zlib.crc32(lines, self._crc_32)
-        self._lines += number
+            text = text.replace(_NAME + b'"', _NAME + self._folder)
+        ends = Counter[bytes](line[line.rfind(_NAME) :] for line in text.splitlines(keepends=True) if len(self._tails) > 1)
+        for name, tail in self._tails.items():
+            self.captures[name] += ends[tail] if ends else text.count(tail)
+        if found:
+            self._count(*zip(*found))
+        self._file.write(text)
+        self._size += len(text)
+        self._crc_32 = zlib.crc32(text, self._crc_32)
+        self._lines += len(lines)
 
     def end(self) -> Written:
         """Returns what was written. Raises Failed if there are lines of other archives."""
@@ -187,8 +177,7 @@ class _Lines:
         return self._file.name, self._size, self._crc_32, self._lines, counts
 
     def _count(self, keys: Sequence[bytes], years: Sequence[bytes], types: Sequence[bytes], statuses: Sequence[bytes]) -> None:
-        add_hosts(self._counts["hosts"], keys)
-        for field, values in (("years", years), ("types", types), ("statuses", statuses)):
+        for field, values in zip(FIELDS, (map(host_key_of, keys), years, types, statuses)):
             self._counts[field].update(map(_FRONT, values))
         for field, counter in self._counts.items():
             if len(counter) > MOST_VALUES:
@@ -208,87 +197,41 @@ def _value_of(front: bytes) -> str:
     return text
 
 
-def add_hosts(hosts: "Counter[bytes]", keys: Sequence[bytes]) -> None:
-    """Counts the hosts of URL keys, which are sorted, so that those of a host follow one another."""
-    at = 0
-    while at < len(keys):
-        front, slash, _ = keys[at].partition(b")/")
-        end = bisect.bisect_left(keys, front + b")0", at + 1) if slash else at + 1  # `0` is the byte behind `/`
-        hosts[_FRONT(_host_of(front + slash))] += end - at
-        at = end
-
-
-def _host_of(front: bytes) -> bytes:
-    """Returns the host with its port of a URL key that begins so, up to the first `)/`. Of another key it is the scheme."""
-    labels = front[:-2]
-    if not front.endswith(b")/") or b")" in labels:
-        return front.partition(b":")[0] + b":"
-    if labels.startswith(b"["):
-        return labels
-    host, colon, port = labels.partition(b":")
-    return b".".join(reversed(host.split(b","))) + colon + port
+def host_key_of(key: bytes) -> bytes:
+    """Returns the front of a URL key that names the host, up to the first `)/`. Of another key it is the scheme with its colon."""
+    front, slash, _ = key.partition(b")/")
+    return front if slash and b")" not in front else key.partition(b":")[0] + b":"
 
 
 def _json_of(name: str) -> bytes:
     return json.dumps(name, ensure_ascii=False).encode()
 
 
-@contextlib.contextmanager
-def _new(front: str) -> Iterator[IO[bytes]]:
+def _new(front: str) -> contextlib.AbstractContextManager[IO[bytes]]:
     """Opens a file that is made now, and whose path begins so. It is on the disk at the end, or isn't there.
 
     Its name is another one if a cluster runs a task again whose worker is gone.
     """
-    path = f"{front}-{os.urandom(8).hex()}"
-    with open(path, "xb") as file:
-        try:
-            yield file
-            file.flush()
-            os.fsync(file.fileno())
-        except BaseException:
-            os.remove(path)
-            raise
+    return made(f"{front}-{os.urandom(8).hex()}")
 
 
 @contextlib.contextmanager
-def _running(
-    command: Sequence[str], folder: str, start: Start, output: "int | IO[bytes]" = subprocess.PIPE
-) -> Iterator[tuple["subprocess.Popen[bytes]", IO[bytes]]]:
-    """Runs a program in a folder, and yields it and its standard error. It has ended at the end.
+def _running(command: Sequence[str], folder: str, start: Start) -> Iterator[tuple["subprocess.Popen[bytes]", IO[bytes], IO[bytes]]]:
+    """Runs a program in a folder, and yields it, its output and its standard error. It has ended at the end.
 
     What it says is held in memory: on a full disk the later ones of its messages would be lost.
     """
     with open(os.memfd_create("said"), "w+b") as said:
         try:
-            process = start(command, cwd=folder, stdin=subprocess.DEVNULL, stdout=output, stderr=said)
+            process = start(command, cwd=folder, stdin=subprocess.DEVNULL, stdout=subprocess.PIPE, stderr=said)
         except OSError as error:
             raise Failed(": ".join(filter(None, (error.filename, error.strerror)))) from None
         with process:
+            assert process.stdout is not None
             try:
-                yield process, said
+                yield process, process.stdout, said
             finally:
                 process.kill()
-
-
-class _Watched(io.RawIOBase):
-    """The output of a program. Each time that nothing has come for some seconds, `look` is called.
-
-    It raises an error if an archive isn't there any more. The program would wait for ever for who writes a pipe in its place.
-    """
-
-    def __init__(self, pipe: IO[bytes], look: Callable[[], None]) -> None:
-        self._number = pipe.fileno()
-        self._look = look
-        self._poll = select.poll()
-        self._poll.register(self._number, select.POLLIN)
-
-    def readable(self) -> bool:
-        return True
-
-    def readinto(self, room: "bytearray | memoryview") -> int:  # type: ignore[override]
-        while not self._poll.poll(_SILENCE * 1000):
-            self._look()
-        return os.readv(self._number, [room])
 
 
 def _wait(process: "subprocess.Popen[bytes]") -> int:
@@ -304,18 +247,12 @@ def _wait(process: "subprocess.Popen[bytes]") -> int:
     return process.returncode
 
 
-def _whole_lines(file: IO[bytes]) -> Iterator[bytes]:
-    """Yields what a program writes or a file has, in pieces that end with a line."""
-    rest = b""
-    while piece := file.read(_PIECE):
-        lines, end, after = piece.rpartition(b"\n")
-        if end:
-            yield rest + lines + end
-            rest = after
-        else:
-            rest += piece
-    if rest:
-        raise Failed("the last line isn't whole")
+def _whole_lines(file: IO[bytes]) -> Iterator[list[bytes]]:
+    """Yields the lines of what a program writes or a file has, many at a time."""
+    while lines := file.readlines(_PIECE):
+        if not lines[-1].endswith(b"\n"):
+            raise Failed("the last line isn't whole")
+        yield lines
 
 
 def _causes_of(said: IO[bytes], names: Sequence[str]) -> dict[str, str]:

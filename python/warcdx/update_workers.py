@@ -3,59 +3,25 @@ import contextlib
 import errno
 import functools
 import os
+import queue
 import signal
 import subprocess
 import threading
 from collections.abc import Callable, Iterator, Sequence
-from typing import Any
+from typing import Any, Union
 
-from . import update_tasks
-from .ending import blocked, uninterrupted
+from . import files, streams, update_tasks
+from .ending import blocked
 from .program import executable
 from .update_tables import CannotUpdate
 from .update_tasks import Failed
 
 Task = Callable[..., Any]
 Outcomes = Iterator[tuple[int, Any]]  # the numbers of the arguments of a task, each with the result or the error, as they come
-
-
 _ENDING_WITH_STARTER = ("setpriv", "--pdeathsig", "KILL")  # in front of a program; some systems have a setpriv without this option
 
 
-def _runs(*command: str) -> bool:
-    """Returns whether a command succeeds."""
-    try:
-        return not subprocess.call(command, stdin=subprocess.DEVNULL, stdout=subprocess.DEVNULL, stderr=subprocess.DEVNULL)
-    except OSError:
-        return False
-
-
-class Workers(contextlib.ExitStack):
-    """Run tasks by an executor as of the module concurrent.futures, which ends with the block."""
-
-    _executor: Any
-    _words: dict[str, Any] = {}  # are given to each task
-
-    def run(self, task: Task, arguments: Sequence[tuple[Any, ...]]) -> Outcomes:
-        """Runs a task once with each of these arguments."""
-        from concurrent.futures import CancelledError, Future, as_completed
-
-        futures: dict[Future[Any], int] = {}
-        try:
-            for number, each in enumerate(arguments):
-                with blocked():  # so that the executor knows of each thread that it starts
-                    futures[self._executor.submit(task, *each, **self._words)] = number
-        except RuntimeError as error:  # there is no memory for a thread, or the cluster is gone
-            raise CannotUpdate(str(error)) from None
-        for future in as_completed(list(futures)):
-            try:
-                outcome = future.result()
-            except (CancelledError, Exception) as error:
-                outcome = error
-            yield futures.pop(future), outcome
-
-
-class Threads(Workers):
+class Threads(contextlib.ExitStack):
     """Threads of this process, each of which runs one program at a time. The programs end with it, also if it is killed."""
 
     def __init__(self, jobs: int) -> None:
@@ -64,27 +30,32 @@ class Threads(Workers):
         self._lock = threading.Lock()
         self._running: set[subprocess.Popen[bytes]] = set()
         self._is_ended = False
-        self._words = {"start": self._start}
-        self._threads: list[threading.Thread] = []  # that may run tasks
+        self._threads: list[threading.Thread] = []
         self.callback(self._end)
 
     def run(self, task: Task, arguments: Sequence[tuple[Any, ...]]) -> Outcomes:
-        """Runs a task once with each of these arguments. One alone needs no thread, and the modules for these take long to load."""
-        if len(arguments) != 1:
-            yield from super().run(task, arguments)
-            return
-        outcome: Any
+        """Runs a task once with each of these arguments."""
+        turns, outcomes = enumerate(arguments), queue.SimpleQueue[tuple[int, Any]]()
+
+        def work() -> None:
+            signal.pthread_sigmask(signal.SIG_SETMASK, ())  # which the programs have too
+            for number, each in turns:
+                if self._is_ended:
+                    return
+                try:
+                    outcomes.put((number, task(*each, start=self._start)))
+                except Exception as error:
+                    outcomes.put((number, error))
+
         try:
-            outcome = task(*arguments[0], **self._words)
-        except Exception as error:
-            outcome = error
-        yield 0, outcome
-
-    @functools.cached_property
-    def _executor(self) -> Any:
-        from concurrent.futures import ThreadPoolExecutor
-
-        return ThreadPoolExecutor(self._jobs, "", self._begin)
+            for _ in range(min(self._jobs, len(arguments))):
+                self._threads.append(threading.Thread(target=work))
+                with blocked():  # until the thread has begun
+                    self._threads[-1].start()
+        except RuntimeError as error:  # there is no memory for a thread
+            raise CannotUpdate(str(error)) from None
+        for _ in arguments:
+            yield outcomes.get()
 
     @functools.cached_property
     def _front(self) -> tuple[str, ...]:
@@ -92,12 +63,12 @@ class Threads(Workers):
 
         A function that subprocess calls in the new process would do the same, but makes a start slower the more memory this process has.
         """
-        return _ENDING_WITH_STARTER if _runs(*_ENDING_WITH_STARTER, "true") else ()
-
-    def _begin(self) -> None:
-        """Begins a thread, whose programs have its mask of signals."""
-        self._threads.append(threading.current_thread())
-        signal.pthread_sigmask(signal.SIG_SETMASK, ())
+        nothing = subprocess.DEVNULL
+        try:
+            status = subprocess.call((*_ENDING_WITH_STARTER, "true"), stdin=nothing, stdout=nothing, stderr=nothing)
+        except OSError:
+            return ()
+        return () if status else _ENDING_WITH_STARTER
 
     def _end(self) -> None:
         """Ends the programs that run, refuses others, and waits for the threads."""
@@ -105,10 +76,9 @@ class Threads(Workers):
             self._is_ended = True
             for process in self._running:
                 process.kill()
-        if "_executor" in self.__dict__:
-            self._executor.shutdown(cancel_futures=True)
-        for thread in self._threads:  # the executor doesn't know of one that it was starting when another one took a signal
-            thread.join()
+        for thread in self._threads:
+            if thread.ident is not None:  # else it does nothing
+                thread.join()
 
     def _start(self, command: Sequence[str], **options: Any) -> "subprocess.Popen[bytes]":
         if executable(command[0]) is None:
@@ -116,18 +86,32 @@ class Threads(Workers):
         with self._lock:
             if self._is_ended:
                 raise Failed("the work is ended")
-            with uninterrupted():
-                process: subprocess.Popen[bytes] = subprocess.Popen((*self._front, *command), **options)
+            process: subprocess.Popen[bytes] = subprocess.Popen((*self._front, *command), **options)
             self._running = {each for each in self._running if each.returncode is None} | {process}
             return process
 
 
-class Cluster(Workers):
+class Cluster(contextlib.ExitStack):
     """The workers of a Dask cluster, which are sent the functions of the tasks. The first task opens them."""
 
     def __init__(self, address: str) -> None:
         super().__init__()
         self._address = address
+
+    def run(self, task: Task, arguments: Sequence[tuple[Any, ...]]) -> Outcomes:
+        """Runs a task once with each of these arguments."""
+        from concurrent.futures import CancelledError, as_completed
+
+        try:
+            futures = {self._executor.submit(task, *each): number for number, each in enumerate(arguments)}
+        except RuntimeError as error:  # the cluster is gone
+            raise CannotUpdate(str(error)) from None
+        for future in as_completed(list(futures)):
+            try:
+                outcome = future.result()
+            except (CancelledError, Exception) as error:
+                outcome = error
+            yield futures.pop(future), outcome
 
     @functools.cached_property
     def _executor(self) -> Any:
@@ -139,7 +123,8 @@ class Cluster(Workers):
         except ImportError:
             raise CannotUpdate("the module distributed is missing (Debian's package python3-distributed)") from None
         logging.disable()  # what Dask logs of a lost worker isn't for the user
-        cloudpickle.register_pickle_by_value(update_tasks)
+        for module in (files, streams, update_tasks):
+            cloudpickle.register_pickle_by_value(module)
         try:
             client = self.enter_context(distributed.Client(self._address))
         except ValueError as error:  # it isn't an address
@@ -147,3 +132,6 @@ class Cluster(Workers):
         executor = self.enter_context(client.get_executor(pure=False))
         self.push(lambda kind, *_: executor.shutdown(wait=kind is None))
         return executor
+
+
+Workers = Union[Threads, Cluster]

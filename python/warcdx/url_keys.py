@@ -1,12 +1,10 @@
 """URL keys: of many URLs, as `warcdx index` makes them, and their hosts."""
 import re
-import subprocess
-from collections.abc import Iterable, Iterator, Sequence
+from collections.abc import Iterator, Sequence
 from typing import NamedTuple, Optional
 
-from .codings import Unreadable
-from .errors import Fault
-from .program import end_of, memory_file, started
+from .errors import Fault, ProgramError
+from .program import PIPE, Process
 
 MOST_URL = 1 << 20  # bytes: the program refuses the head of a record that is longer
 _HEAD = (
@@ -43,8 +41,12 @@ def keys_of(program: str, urls: Sequence[bytes]) -> Iterator[Keyed]:
 
     No URL has a line feed. The program reads the URLs as the targets of records. Raises Error if it fails.
     """
-    found = _keyed_by_offset(_lines_of(program, urls))
-    offset = 0
+    found, offset = dict[int, Keyed](), 0
+    for line in _lines_of(program, urls):
+        parts = _LINE.fullmatch(line)
+        if parts is None:
+            raise ProgramError("the program has written no line of an index")
+        found[int(parts[3])] = Keyed(parts[1], parts[2])
     for url in urls:
         if offset not in found:
             return
@@ -54,21 +56,10 @@ def keys_of(program: str, urls: Sequence[bytes]) -> Iterator[Keyed]:
 
 def _lines_of(program: str, urls: Sequence[bytes]) -> list[bytes]:
     """Returns the lines of an archive with a record for each URL, up to the first one that the program can't index."""
-    with memory_file() as said, started((program, "index", "-"), said, subprocess.PIPE) as process:
-        lines, _ = process.communicate(b"".join(_HEAD + url + _END for url in urls))
+    with Process((program, "index", "-"), PIPE) as process:
+        lines = process.communicate(b"".join(_HEAD + url + _END for url in urls)).splitlines(keepends=True)
         if process.wait():
-            reported = end_of(process, said)
+            reported = process.error()
             if not isinstance(reported, Fault) or reported.offset is None:
                 raise reported
-    return lines.splitlines(keepends=True)
-
-
-def _keyed_by_offset(lines: Iterable[bytes]) -> dict[int, Keyed]:
-    """Returns the URLs of lines, by the offsets of their records."""
-    found: dict[int, Keyed] = {}
-    for line in lines:
-        parts = _LINE.fullmatch(line)
-        if parts is None:
-            raise Unreadable("the program has written no line of an index")
-        found[int(parts[3])] = Keyed(parts[1], parts[2])
-    return found
+    return lines

@@ -6,6 +6,7 @@ all records of crawls pass it. Nothing here raises a fault. `None` says that the
 """
 import datetime
 import functools
+import io
 import itertools
 import os
 import re
@@ -20,7 +21,6 @@ from .record import CLOSING, Record
 MAGIC = b"\x1f\x8b"  # what a compressed archive begins with, and each of its members
 MOST = 1 << 26  # bytes of a record that is read here
 _MOST_HEAD = 1 << 16  # bytes of a usual head; the program takes longer ones
-_MOST_HELD = 1 << 20  # bytes of a record that isn't read in pieces
 _AHEAD = 1 << 16  # bytes of an archive that are read at once
 _PACKED = 1 << 13  # bytes that are unpacked from at once: what follows a member is copied
 _GZIP = 16 + zlib.MAX_WBITS
@@ -88,17 +88,11 @@ def usual_record(text: bytes, offset: Optional[int] = None, length: Optional[int
 
     `offset` and `length` are where it is in its file.
     """
-    found = _usual_parts(text)
-    return Record(*found, offset, length) if found else None
-
-
-def _usual_parts(text: bytes) -> Optional[tuple[Fields, bytes]]:
-    """Returns the fields and the block of the record that a text is, or None."""
     head = usual_head(text)
     if head is None or not text.endswith(CLOSING):
         return None
-    fields, size, length = head
-    return (fields, text[size : -len(CLOSING)]) if size + length + len(CLOSING) == len(text) else None
+    fields, start, size = head
+    return Record(fields, text[start : -len(CLOSING)], offset, length) if start + size + len(CLOSING) == len(text) else None
 
 
 class NotUsual(Exception):
@@ -128,141 +122,96 @@ def _checked(length: int, pieces: Iterator[bytes]) -> Iterator[bytes]:
         raise NotUsual
 
 
-class ArchiveFile:
+class ArchiveFile(io.FileIO):
     """An archive that is open to be read at any place. Raises OSError if it isn't a file, or can't be opened, or has no size.
 
-    `size` is that of the file when it was opened, in bytes, and `identity` what no other file has. `end` is the offset up to which records were yielded.
+    `size` is that of the file when it was opened, in bytes, and `identity` what no other file has. `end` is the offset up to which records were yielded, and
+    `next` what follows the one that is read.
     """
 
-    _number = -1
-
-    def __init__(self, path: str) -> None:
+    def __init__(self, path: str, may_be_packed: bool = True) -> None:
         if not stat.S_ISREG(os.stat(path).st_mode):  # to open a pipe would be seen by who writes it
             raise OSError("not a regular file")
-        self._number = os.open(path, os.O_RDONLY | os.O_CLOEXEC | os.O_NONBLOCK)  # a pipe may have taken its place
-        found = os.fstat(self._number)
+        super().__init__(path, opener=lambda name, flags: os.open(name, flags | os.O_NONBLOCK))  # a pipe may have taken its place
+        found = os.fstat(self.fileno())
         self.size, self.identity = found.st_size, (found.st_dev, found.st_ino)
         if not self.size or not stat.S_ISREG(found.st_mode):  # or the system can't give the size, as of a file in /proc
             self.close()
             raise OSError("not a regular file of a size")
+        self.is_packed = may_be_packed and os.pread(self.fileno(), len(MAGIC), 0) == MAGIC
         self.end = 0
-        self._next = 0  # the offset behind a record that was read in pieces
+        self.next = 0  # the offset behind what was read of a record
         self._start = 0  # the offset of the bytes that are held
         self._held = b""
 
-    def is_packed(self) -> bool:
-        """Returns whether the file begins as a compressed archive does."""
-        return os.pread(self._number, len(MAGIC), 0) == MAGIC
+    def text(self, offset: int, length: Optional[int] = None, most: int = MOST) -> Optional[bytes]:
+        """Returns the text of the record at an offset, which has this length if one is given, or whose member has.
 
-    def plain_text(self, offset: int, length: int, most: int = MOST) -> Optional[bytes]:
-        """Returns these bytes of a plain archive, or None if they are too many or the file ends in them."""
-        if length > most or not 0 <= offset <= self.size - length:
-            return None
-        text = os.pread(self._number, length, offset)
-        return text if len(text) == length else None
-
-    def member_text(self, offset: int, length: Optional[int] = None, most: int = MOST) -> Optional[bytes]:
-        """Returns the text of the member of gzip that begins at an offset, and has this length if one is given.
-
-        Returns None if that isn't so, or the text has more than `most` bytes.
+        Returns None if that isn't so, if the text has more than `most` bytes, and for a plain record without a length.
         """
-        if length is not None and length > most or not 0 <= offset < self.size:
+        if length is not None and length > most or not 0 <= offset <= self.size - (length or 1):
             return None
         if length is not None:  # nothing else is read
-            self._held, self._start = os.pread(self._number, length, offset), offset
+            self._held, self._start = os.pread(self.fileno(), length, offset), offset
+        if not self.is_packed:
+            return self._held if length == len(self._held) else None
         found = self._member(offset, most)
         return found[0] if found and length in (None, found[1]) else None
 
-    def records(self, is_packed: bool) -> Iterator[Record]:
-        """Yields the records of an archive, up to the first one that isn't of the usual form.
+    def blocks(self) -> Iterator[Block]:
+        """Yields the records to be read in pieces, each to its end before the next one, with little memory.
 
-        Members of a compressed archive without a text are passed over.
-        """
-        while found := self._parts(is_packed, MOST):
-            parts, length = found
-            start = self.end
-            self.end += length
-            if parts is not None:
-                yield Record(*parts, start, length)
-
-    def blocks(self, is_packed: bool) -> Iterator[Block]:
-        """Yields the same records to be read in pieces, each to its end before the next one, with little memory.
-
-        Raises NotUsual at the first record that isn't of the usual form, or in its pieces. `end` is its offset then.
+        Members of a compressed archive without a text are passed over. Raises NotUsual at the first record that isn't of
+        the usual form, or in its pieces. `end` is its offset then.
         """
         while self.end < self.size:
-            if found := self._parts(is_packed, _MOST_HELD):
-                parts, length = found
-                if parts is not None:
-                    yield Block(self.end, parts[0], len(parts[1]), iter(parts[1:]))
-                self.end += length
-            else:
-                yield self._long_block(self._pieces_of_member() if is_packed else self._pieces_of_file())
-                self.end = self._next
+            if block := self._packed_block() if self.is_packed else self._plain_block():
+                yield block
+            self.end = self.next
 
-    def _parts(self, is_packed: bool, most: int) -> Optional[tuple[Optional[tuple[Fields, bytes]], int]]:
-        """Returns the fields and the block of the next record, and its length, if it is usual and has at most `most` bytes.
-
-        A member without a text has neither.
-        """
-        if not is_packed:
-            return self._plain_parts(self.end, most)
-        found = self._member(self.end, most)
-        if found is None:
-            return None
-        parts = _usual_parts(found[0])
-        return (parts, found[1]) if parts or not found[0] else None
-
-    def _plain_parts(self, offset: int, most: int) -> Optional[tuple[tuple[Fields, bytes], int]]:
-        head = self._plain_head(offset)
-        if head is None:
-            return None
-        fields, start, length = head
-        size = start + length + len(CLOSING)
-        if size > most or offset + size > self.size:
-            return None
-        at = self._look(offset, size)
-        text = self._held[at : at + size]
-        return ((fields, text[start : -len(CLOSING)]), size) if text.endswith(CLOSING) else None
-
-    def _plain_head(self, offset: int) -> Optional[_Head]:
-        at = self._look(offset, 1)
+    def _plain_block(self) -> Block:
+        at = self._look(self.end, 1)
         head = usual_head(self._held, at)
         if head is None and at:  # it may end in what isn't held yet
-            at = self._look(offset, _AHEAD)
+            at = self._look(self.end, _AHEAD)
             head = usual_head(self._held, at)
-        return head
+        if head is None:
+            raise NotUsual
+        fields, start, length = head
+        self.next = self.end + start
+        return Block(self.end, fields, length, _checked(length, self._pieces(length + len(CLOSING))))
 
-    def _long_block(self, pieces: Iterator[bytes]) -> Block:
-        """Returns the record of these pieces. Raises NotUsual if its head isn't usual."""
-        text = b""
+    def _pieces(self, left: int) -> Iterator[bytes]:
+        """Yields as many bytes behind `_next` as are left, if the file has them, and sets `_next` behind them."""
+        while self.next + left <= self.size and left:
+            size = min(left, _AHEAD)
+            at = self._look(self.next, size)
+            piece = self._held[at : at + size]
+            self.next += len(piece)
+            left = left - len(piece) if piece else 0
+            yield piece
+
+    def _packed_block(self) -> Optional[Block]:
+        pieces, text = self._pieces_of_member(self.end), b""
         while len(text) < _MOST_HEAD and (piece := next(pieces, b"")):
             text += piece
         head = usual_head(text)
         if head is None:
-            raise NotUsual
+            if text:
+                raise NotUsual
+            return None
         fields, start, length = head
         return Block(self.end, fields, length, _checked(length, itertools.chain((text[start:],), pieces)))
 
-    def _pieces_of_file(self) -> Iterator[bytes]:
-        """Yields the next record of a plain archive. Sets `_next` at its end."""
-        head = self._plain_head(self.end)
-        self._next = self.end
-        left = head[1] + head[2] + len(CLOSING) if head else 0
-        while left and (piece := os.pread(self._number, min(left, _AHEAD), self._next)):
-            self._next += len(piece)
-            left -= len(piece)
-            yield piece
-
-    def _pieces_of_member(self) -> Iterator[bytes]:
-        """Yields the text of the next member. Sets `_next` at its end. Raises NotUsual if it isn't a good one."""
+    def _pieces_of_member(self, offset: int) -> Iterator[bytes]:
+        """Yields the text of the member at an offset. Sets `_next` at its end. Raises NotUsual if it isn't a good one."""
         unpacker, packed = zlib.decompressobj(_GZIP), b""
-        self._next = self.end
+        self.next = offset
         while not unpacker.eof:
             if not packed:
-                at = self._look(self._next, 1)
+                at = self._look(self.next, 1)
                 packed = self._held[at : at + _PACKED]
-                self._next += len(packed)
+                self.next += len(packed)
             if not packed:
                 raise NotUsual
             try:
@@ -272,45 +221,25 @@ class ArchiveFile:
             packed = unpacker.unconsumed_tail
             if piece:
                 yield piece
-        self._next -= len(unpacker.unused_data)
+        self.next -= len(unpacker.unused_data)
 
     def _member(self, offset: int, most: int) -> Optional[tuple[bytes, int]]:
         """Returns the text and the length of a good member whose text has at most `most` bytes."""
-        unpacker, pieces, left, end = zlib.decompressobj(_GZIP), [], most, offset
-        while left >= 0:
-            at = self._look(end, 1)
-            packed = self._held[at : at + _PACKED]
-            if not packed:
-                return None
-            try:
-                piece = unpacker.decompress(packed, left + 1)
-            except zlib.error:
-                return None
-            end += len(packed)
-            left -= len(piece)
-            pieces.append(piece)
-            if unpacker.eof and left >= 0:
-                return b"".join(pieces) if len(pieces) > 1 else piece, end - len(unpacker.unused_data) - offset
-        return None
+        pieces, left = list[bytes](), most
+        try:
+            for piece in self._pieces_of_member(offset):
+                pieces.append(piece)
+                left -= len(piece)
+                if left < 0:
+                    return None
+        except NotUsual:
+            return None
+        return b"".join(pieces), self.next - offset
 
     def _look(self, offset: int, least: int) -> int:
         """Holds `least` bytes or more from an offset on, if the file has them. Returns the index of the first one."""
         at = offset - self._start
         if not 0 <= at <= len(self._held) - least:
-            self._held = os.pread(self._number, max(least, _AHEAD), offset)
+            self._held = os.pread(self.fileno(), max(least, _AHEAD), offset)
             self._start, at = offset, 0
         return at
-
-    def close(self) -> None:
-        number, self._number = self._number, -1
-        if number >= 0:
-            os.close(number)
-
-    def __del__(self) -> None:
-        self.close()  # as after an interrupt before the block that closes it
-
-    def __enter__(self) -> "ArchiveFile":
-        return self
-
-    def __exit__(self, *error: object) -> None:
-        self.close()

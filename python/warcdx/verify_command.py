@@ -53,7 +53,7 @@ from .inputs import read_again
 from .outputs import STANDARD, check_that_it_is_new, output_of
 from .progress import Lines, Silent, bar_on_terminal
 from .record_digests import Verdict
-from .resuming import CannotResume, Notes
+from .resuming import Notes
 from .streams import printable, report
 from .verifying import Checked, check_archive
 from .workers import run_one_by_one, run_side_by_side
@@ -126,7 +126,12 @@ def print_archive(file: str, archive: Archive, program: str, style: Style, outpu
     """Prints the records of an archive, and the fault of a damaged one. Raises a fault that has no offset."""
     status, found, advice = 0, set[Verdict](), ""
     try:
-        print_records(archive, style, output, found)
+        with contextlib.closing(check_archive(archive)) as records:
+            for record in records:
+                verdicts = {record.block, record.payload}
+                found |= verdicts
+                if Verdict.DIFFERS in verdicts or not style.is_quiet:
+                    output.write(style.record(record))
     except Fault as error:
         if error.offset is None:
             raise
@@ -136,16 +141,6 @@ def print_archive(file: str, archive: Archive, program: str, style: Style, outpu
         report(NAME, f"{printable(file)}: {advice or 'no digest was compared'}")
         return max(status, FAULTY)
     return max(status, FAULTY) if Verdict.DIFFERS in found else status
-
-
-def print_records(archive: Archive, style: Style, output: BinaryIO, found: set[Verdict]) -> None:
-    """Prints the records of an archive, and adds their verdicts to those that were found."""
-    with contextlib.closing(check_archive(archive)) as records:
-        for record in records:
-            verdicts = {record.block, record.payload}
-            found |= verdicts
-            if Verdict.DIFFERS in verdicts or not style.is_quiet:
-                output.write(style.record(record))
 
 
 class Run:
@@ -244,8 +239,6 @@ def work(arguments: Optional[Sequence[str]], output: BinaryIO) -> int:
         check_that_it_is_new(given.output)  # before notes are made
     try:
         archives = Run(given)
-    except CannotResume as error:
-        return failure(NAME, error)
     except OSError as error:
         error.filename = given.resume  # and not where that leads
         raise

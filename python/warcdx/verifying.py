@@ -1,15 +1,13 @@
 """Compares the digests of blocks and of payloads with an archive of either form."""
-import os
-from collections.abc import Generator, Iterator
-from typing import NamedTuple, Optional
+from collections.abc import Generator
+from typing import NamedTuple
 
 from .archive import Archive
 from .codings import Unreadable
 from .faults import NoRecord, Read
 from .record import Head
-from .record_digests import BlockCheck, Verdict
-from .reported import fault
-from .usual_records import ArchiveFile, NotUsual
+from .record_digests import Verdict, verdicts_of
+from .usual_records import Block
 
 
 class Checked(NamedTuple):
@@ -23,33 +21,14 @@ class Checked(NamedTuple):
 def check_archive(archive: Archive) -> Generator[Checked, None, None]:
     """Yields each record of an archive, which isn't a pipe. After the last one raises the fault of a damaged archive.
 
-    Records of the usual form are read by this process, and once. From the first other one on, `list` of the program
-    finds the records, and has read a member to its end. They are then read for their digests.
+    Raises Read if a record is changed after the program has found it.
     """
-    file = None
     try:
-        with archive.opened() as (file, is_packed):
-            for block in file.blocks(is_packed):
-                yield _checked(block.offset, Head(block.fields), block.length, block.pieces)
-            return
-    except (NotUsual, OSError, ValueError):
-        pass  # the program says what is there, or why the file can't be read
-    yield from check_listed(archive, file)
-    if file is not None and (size := os.stat(archive.path).st_size) < file.size:  # another process has cut it
-        raise fault("ShortHead", archive.path, size)
-
-
-def check_listed(archive: Archive, read: Optional[ArchiveFile] = None) -> Iterator[Checked]:
-    """Yields the records, if a file was read those behind its `end`, which the program finds. Raises Read if one is changed after that."""
-    try:
-        for listed, record in archive.listed_streams(read):
-            yield _checked(listed.offset, record.head, record.length, record.whole_block())
+        for checked, _ in archive.each(_checked):
+            yield checked
     except (NoRecord, Unreadable) as error:
         raise Read("Read", archive.path) from error
 
 
-def _checked(offset: int, head: Head, length: int, pieces: Iterator[bytes]) -> Checked:
-    check = BlockCheck(head, length)
-    for piece in pieces:
-        check.add(piece)
-    return Checked(offset, *check.verdicts())
+def _checked(block: Block) -> Checked:
+    return Checked(block.offset, *verdicts_of(Head(block.fields), block.length, block.pieces))

@@ -10,9 +10,8 @@ import threading
 from collections.abc import Callable, Sequence
 from typing import IO, BinaryIO, NoReturn, Optional, Protocol
 
-from .command import FAILED, failure, report, run
+from .command import FAILED, report, run
 from .ending import blocked
-from .errors import Error
 from .streams import write_error
 
 Work = Callable[[BinaryIO], int]
@@ -106,19 +105,19 @@ class _Workers:
                 break
             self._watch.begin(self._started)
             with blocked():
-                part = self._parts[self._started] = tempfile.TemporaryFile(buffering=0)
-                self._start(self._started, part.fileno())
+                self._start(self._started)
                 self._started += 1
 
-    def _start(self, number: int, part: int) -> None:
-        """Starts the process of a work, whose output goes to the file descriptor `part`."""
+    def _start(self, number: int) -> None:
+        """Starts the process of a work, whose output goes to a file, and whose errors come through a pipe."""
+        part = self._parts[number] = tempfile.TemporaryFile(buffering=0)
         reading_end, writing_end = os.pipe()
         self._errors.register(reading_end, selectors.EVENT_READ, number)
         self._said[number] = b""
         try:
             identifier = os.fork()
             if not identifier:
-                self._work(number, part, writing_end)
+                self._work(number, part.fileno(), writing_end)
         finally:
             os.close(writing_end)
         self._running[number] = identifier
@@ -162,13 +161,10 @@ class _Workers:
 
         def work(output: BinaryIO) -> int:
             nonlocal is_done
-            try:
-                status = self._works[number](output)
-            except Error as error:
-                return failure(self._name, error)
+            ended = self._works[number](output)
             output.flush()
             is_done = True
-            return status
+            return ended
 
         try:
             os.close(self._alive[1])

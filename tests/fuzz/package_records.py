@@ -29,7 +29,8 @@ from trial import Trial
 
 from warcdx import Archive, CompressedArchive, Error, Fault, Listed, Record, open_archive, usual_records
 from warcdx.record import RecordStream
-from warcdx.verifying import Checked, check_archive, check_listed
+from warcdx.usual_records import ArchiveFile
+from warcdx.verifying import Checked, check_archive
 
 Place = tuple[int, Optional[int]]  # an offset and a length
 Found = Union[Record, bytes, str]
@@ -91,11 +92,8 @@ def some_archive(choice: random.Random) -> bytes:
 class ByProgram(Archive):
     """A plain archive of which each record is asked of the program."""
 
-    def _text_at(self, offset: int, length: Optional[int], most: int) -> Optional[bytes]:
-        return None
-
-    def __iter__(self) -> Iterator[Record]:
-        return (self.record(listed.offset, length=listed.length) for listed in self.list())
+    def opened(self) -> ArchiveFile:
+        raise OSError
 
 
 class CompressedByProgram(ByProgram, CompressedArchive):
@@ -180,8 +178,8 @@ def expect_same(trial: Trial, here: Archive, asked: Archive, size: int) -> None:
     trial.tally["iterations that ask the program"] += len(asks)
     trial.check(found == wanted, f"{here.path} has {found!s:.1500}\nand by the program {wanted!s:.1500}")
     expect_places(trial, found, asked)
-    usual_records._MOST_HELD, usual_records._AHEAD = trial.choice.choice(((1 << 20, 1 << 16), (0, 1 << 16), (100, 509), (1000, 50)))
-    checked, wanted_verdicts = verdicts(check_archive(here)), verdicts(check_listed(asked))
+    usual_records._AHEAD = trial.choice.choice((1 << 16, 509, 50))
+    checked, wanted_verdicts = verdicts(check_archive(here)), verdicts(check_archive(asked))
     trial.check(checked == wanted_verdicts, f"{here.path} has the verdicts {checked!s:.1500}\nand by the program {wanted_verdicts!s:.1500}")
     trial.tally["verdicts on digests"] += sum(isinstance(each, Checked) and "absent" not in (each.block.value, each.payload.value) for each in checked)
     trial.tally["records"] += sum(isinstance(each, Record) for each in found)

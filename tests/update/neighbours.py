@@ -252,7 +252,7 @@ def a_database_that_others_have_changed_is_refused(program: pathlib.Path, folder
         },
         "counts": {"run": ("'x'",), "field": ("x'00'",), "value": ("x'ff'",), "captures": ("'x'",)},
         "faults": {"archive": ("NULL",), "message": ("NULL", "x'00'")},
-        "files": {"size": ("'x'",), "inode": ("NULL",), "state": ("NULL", "'x'")},
+        "files": {"size": ("'x'",), "crc_32": ("NULL",), "state": ("NULL", "'x'")},
     }  # fmt: skip
     keys = {"counts": "(run, field, value)"}
     statements = [

@@ -11,7 +11,7 @@ from warcdx.collection import find_archive
 from warcdx.fitting import fitting_stream
 from warcdx.http_messages import HttpHead
 from warcdx.record import Head, RecordStream
-from warcdx.record_digests import BlockCheck, Verdicts
+from warcdx.record_digests import Verdicts, verdicts_of
 
 from ..collection import Collection
 from ..generation import Identity
@@ -182,11 +182,13 @@ def verdicts(collection: Collection, capture: Capture) -> Optional[Verdicts]:
     with opened(collection, capture) as record:
         if record.length > MOST_VERIFIED:
             return None
-        check = BlockCheck(record.head, record.length)
-        for piece in record.whole_block():
-            collection.work.go_on()
-            check.add(piece)
-        return check.verdicts()
+        return verdicts_of(record.head, record.length, _watched(record.whole_block(), collection.work))
+
+
+def _watched(pieces: Iterator[bytes], work: Work) -> Iterator[bytes]:
+    for piece in pieces:
+        work.go_on()
+        yield piece
 
 
 def bounded(limits: Limits, work: Work) -> Limits:
