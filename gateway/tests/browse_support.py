@@ -37,7 +37,7 @@ from warcdx_gateway.application import Gateway  # noqa: E402
 from warcdx_gateway.collection import Collection  # noqa: E402
 from warcdx_gateway.generation import Generation  # noqa: E402
 from warcdx_gateway.settings import CollectionSettings, Settings  # noqa: E402
-from warcdx_gateway.shared import Board, Metrics  # noqa: E402
+from warcdx_gateway.shared import Metrics  # noqa: E402
 
 PROGRAM = os.environ.get("WARCDX", "warcdx")
 SAMPLES = GATEWAY.parent / "samples"
@@ -161,7 +161,7 @@ def gateway_of(test: unittest.TestCase, settings: Settings) -> Gateway:
     collections = {each.name: Collection(each, settings, Generation(each.indexes)) for each in settings.collections}
     for each in collections.values():
         test.addCleanup(each.close)
-    return Gateway(settings, collections, metrics(), Board(1024), Board(1024))
+    return Gateway(settings, collections, metrics())
 
 
 @functools.cache

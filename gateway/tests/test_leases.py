@@ -12,7 +12,6 @@ from typing import Optional
 from unittest import mock
 
 from warcdx_gateway.refusal import Refusal
-from warcdx_gateway.shared import Beat
 from warcdx_gateway.waiting import MOST_LEVEL, QUEUES, Costs, Shares, Waiting, address_of, queue_of
 from warcdx_gateway.workers import Worker
 from warcdx_gateway.work import FREE, MOST_FREE, PATIENCE, Connection, Lease, NeedsSlot, Work
@@ -104,9 +103,13 @@ class Working(unittest.TestCase):
             work.go_on()
 
     def test_a_killed_master_ends_the_work(self) -> None:
-        Beat(lambda: None, os.getppid())()
+        worker = object.__new__(Worker)
+        worker.tmp, worker.ppid = mock.Mock(), os.getppid()
+        worker.beat()
+        worker.ppid = 1 << 30
         with self.assertRaises(ConnectionResetError):
-            Beat(lambda: None, 1 << 30)()
+            worker.beat()
+        self.assertEqual(2, worker.tmp.notify.call_count)
 
     def test_a_connection_is_read_again(self) -> None:
         client, there = pair(Lease.FREE)

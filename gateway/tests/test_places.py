@@ -17,7 +17,7 @@ from .test_model import index_of, random_captures, random_request
 from .support import LINE
 
 from warcdx_gateway.ranges import Lines, Range
-from warcdx_gateway.rules import RulesFile, rules_of
+from warcdx_gateway.rules import RulesFile
 from warcdx_gateway.settings import CollectionSettings, Settings
 
 REQUESTS = int(os.environ.get("GATEWAY_REQUESTS", "300"))
@@ -44,9 +44,9 @@ class Case(unittest.TestCase):
         each = CollectionSettings("main", "Main", tuple(paths))
         self.gateway = gateway_of(self, Settings((each,), "main", program=PROGRAM))
         if rules:
-            (self.folder / "rules").write_text(rules)
-            text = RulesFile(self.folder / "rules", PROGRAM, ["main"]).text
-            self.gateway.main.rules = rules_of(text, ["main"])["main"]
+            path = self.folder / "rules"
+            path.write_text(rules)
+            self.gateway.main.rules = RulesFile(path, PROGRAM, ["main"]).rules["main"]
         return Client(self.gateway)
 
     def ask(self, client: Client, query: str) -> str:

@@ -1,15 +1,11 @@
-"""What the workers share: locks of files, words of the master, and counts for Prometheus."""
+"""What the workers share: locks of files, flags, and counts for Prometheus."""
 import contextlib
-import errno
 import fcntl
-import hashlib
 import http
 import mmap
 import os
 import pathlib
 import struct
-import time
-from collections.abc import Callable
 from typing import BinaryIO, Optional
 
 from prometheus_client import CollectorRegistry, generate_latest, multiprocess, values
@@ -18,32 +14,11 @@ from prometheus_client.mmap_dict import MmapedDict
 
 from .refusal import say
 
-BEATS = 0.25  # seconds between two beats
 FILE = 1 << 16  # bytes of a file of counts, as prometheus_client makes it
 MOST_ADDED = 24  # bytes that the file has for a count beside its name
 MOST_SEATS = 4096  # workers that run at a time
 STATUSES = frozenset(http.HTTPStatus)  # that are counted by themselves, as an archive may have any other
 BOUNDS = (0.005, 0.01, 0.025, 0.05, 0.1, 0.25, 0.5, 1.0, 2.5, 5.0, 10.0, 30.0)  # seconds
-
-
-class Beat:
-    """Shows the master that a worker goes on, by a system call, at most four times a second.
-
-    Raises ConnectionResetError if the master has ended.
-    """
-
-    def __init__(self, notify: Callable[[], None], master: int) -> None:
-        self._notify = notify
-        self._master = master
-        self._last = 0.0
-
-    def __call__(self) -> None:
-        now = time.monotonic()
-        if now - self._last >= BEATS:
-            self._last = now
-            self._notify()
-            if os.getppid() != self._master:
-                raise ConnectionResetError(errno.ECONNRESET, "the master has ended")
 
 
 class Slots:
@@ -72,34 +47,18 @@ class Slots:
         os.close(self._file)
 
 
-class Board:
-    """A text that one process writes and the ones that it starts read, in memory that no others have.
+class Flag:
+    """Whether something is so: one process says it, and the ones that it has started know it at once."""
 
-    `owner` is the ID of that process, and `size` the most bytes of the text.
-    """
+    def __init__(self, value: bool) -> None:
+        self._memory = mmap.mmap(-1, 1)
+        self.set(value)
 
-    _HEAD = struct.Struct("=QQ32s")  # how often it was written, the bytes of the text, its digest
+    def set(self, value: bool) -> None:
+        self._memory[0] = value
 
-    def __init__(self, size: int) -> None:
-        self.owner = os.getpid()
-        self._memory = mmap.mmap(-1, self._HEAD.size + size)
-        self._count = 0
-        self._text = b""
-
-    def write(self, text: bytes) -> None:
-        if text != self._text:
-            self._count, self._text = self._count + 1, text
-            head = self._HEAD.pack(self._count, len(text), hashlib.sha256(text).digest())
-            self._memory[: len(head) + len(text)] = head + text
-
-    def read(self) -> bytes:
-        """Returns the text. While another one is written, it is that of before."""
-        count, size, digest = self._HEAD.unpack_from(self._memory)
-        if count != self._count:
-            text = self._memory[self._HEAD.size : self._HEAD.size + size]
-            if hashlib.sha256(text).digest() == digest:
-                self._count, self._text = count, text
-        return self._text
+    def __bool__(self) -> bool:
+        return bool(self._memory[0])
 
 
 class CountsFile(MmapedDict):  # type: ignore[misc]
