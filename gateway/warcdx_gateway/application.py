@@ -18,7 +18,7 @@ from warcdx import Error, Fault, Refused, ReplyTooLate, ReplyTooLong
 
 from .answers import Answers, or_nothing
 from .collection import Collection, Source
-from .parameters import Form, translated
+from .parameters import Form
 from .plan import Plan, plan_of
 from .refusal import TEXT, Refusal, http_response, program_refusal, say, text_of
 from .rows import Output
@@ -110,8 +110,7 @@ class Gateway:
 
     def answer(self, request: GatewayRequest, collection: Collection, form: Form, query: Optional[str] = None) -> Response:
         """Answers a query, by default that of the request, in a form of its parameters."""
-        text = translated(request.query_text if query is None else query)
-        plan = plan_of(text, form, self.settings.limits, not collection.rules)
+        plan = plan_of(request.query_text if query is None else query, form, self.settings.limits, not collection.rules)
         source, headers = Source(collection), collection.validators()
         if is_unchanged(request, headers):
             for _ in source.pieces(plan.first_query):  # a query that is refused has no 304
