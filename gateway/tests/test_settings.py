@@ -109,7 +109,7 @@ class Served(Case):
         (self.folder / "runtime").mkdir()
         for number in (signal.SIGTERM, signal.SIGINT, signal.SIGQUIT):
             (self.folder / "begun").unlink(missing_ok=True)
-            with mock.patch.dict(os.environ, RUNTIME_DIRECTORY=str(self.folder / "runtime")):
+            with mock.patch.dict(os.environ, TMPDIR=str(self.folder / "runtime")):
                 process = self.run_later(str(settings))
             self.wait_for((self.folder / "begun").exists, "no check")
             process.send_signal(number)

@@ -3,8 +3,6 @@ import contextlib
 import gc
 import os
 import pathlib
-import re
-import shutil
 import signal
 import socket
 import time
@@ -85,32 +83,6 @@ class Workers(Case):
                 os.kill(worker, signal.SIGKILL)
         self.wait_for(lambda: server.ask(EXACT).status == 200, "no worker is back")
         self.assertEqual(200, server.ask(f"{ALL}&limit=5").status)
-
-    def test_a_cleaner_of_old_files_ends_nothing(self) -> None:
-        """It may remove the folder in which the counts are."""
-        self.put(lines(20_000))
-        runtime = self.folder / "runtime"
-        runtime.mkdir()
-        with mock.patch.dict(os.environ, RUNTIME_DIRECTORY=str(runtime)):
-            server = self.start()
-        (folder,) = runtime.iterdir()
-        maps = [pathlib.Path(f"/proc/{each}/maps") for each in server.workers()]
-        kinds = {"counter", "gauge_max", "histogram"}
-        self.wait_for(
-            lambda: all(kinds <= set(re.findall("/([a-z_]+)_[0-9]+[.]db", each.read_text())) for each in maps), "workers have no files"
-        )
-        shutil.rmtree(folder)
-        for _ in range(3):
-            self.assertEqual(20_000, server.ask(ALL).body.count(b"\n"))
-            self.assertEqual(b"8\n", server.ask(EXACT).body)
-        self.wait_for(folder.exists, "the folder isn't made anew")
-        for worker in server.workers():
-            os.kill(worker, signal.SIGKILL)
-        self.wait_for(lambda: server.ask(EXACT).status == 200 and len(server.workers()) == 3, "no workers")
-        self.assertEqual(20_000, server.ask(ALL).body.count(b"\n"))
-        self.wait_for(lambda: server.metric("requests_total") > 0, "nothing is counted")
-        self.assertEqual(0, server.end())
-        self.assertEqual([], list(runtime.iterdir()))
 
     def test_memory_of_a_worker_is_limited(self) -> None:
         """An answer that takes more is refused, and the next one is answered."""

@@ -4,9 +4,7 @@ import gc
 import logging
 import os
 import pathlib
-import shutil
 import signal
-import tempfile
 from collections.abc import Callable, Container, Sequence
 from typing import Optional
 
@@ -43,12 +41,11 @@ class Server(BaseApplication):
     others have come into use, `state` is another number, and new workers take the place of those of another state.
     """
 
-    def __init__(self, settings: Settings, read: Callable[[], Settings], folder: pathlib.Path, listeners: Sequence[int]) -> None:
+    def __init__(self, settings: Settings, read: Callable[[], Settings], listeners: Sequence[int]) -> None:
         self._settings = settings
         self._read = read
-        self._folder = folder
         self._listeners = listeners
-        self._metrics = Metrics(folder, settings.workers)
+        self._metrics = Metrics()
         self.waiting, self.costs = Waiting(), Costs()
         self.state = 0
         self._next: Optional[tuple[Settings, RulesFile, list[Opening]]] = None  # which come into use when they were checked
@@ -103,7 +100,6 @@ class Server(BaseApplication):
         """Goes on with what is to come into use. Returns whether settings that were read can be used."""
         failed, self._failed = self._failed, 0
         self._metrics.ended.inc(failed)
-        self._metrics.keep()
         self._renew()
         if self._rules.look():
             self._apply_rules()
@@ -158,8 +154,6 @@ class Server(BaseApplication):
     def end_worker(self, server: Master, worker: Worker) -> None:
         if os.getpid() == worker.pid:
             signal.signal(signal.SIGTERM, signal.SIG_IGN)  # it ends already
-        if os.getpid() == worker.pid and os.getppid() != worker.ppid:  # the master was killed
-            shutil.rmtree(self._folder, ignore_errors=True)
 
     def note_end(self, server: Master, worker: Worker) -> None:
         """Counts a worker that wasn't told to end. It is called in the handler of a signal.
@@ -229,23 +223,15 @@ def run(settings: Settings, read: Callable[[], Settings]) -> None:
     allow_files(sum(each.most_files for each in settings.collections))
     if settings.access_log not in ("", "-"):
         open(settings.access_log, "ab").close()
-    master = os.getpid()
-    # systemd has a folder for a service in which nothing is removed because of its age.
-    base = os.environ.get("RUNTIME_DIRECTORY")
-    folder = pathlib.Path(tempfile.mkdtemp(prefix=f"{NAME}-", dir=base))
-    try:
-        addresses = [(settings.address, settings.port), *settings.metrics_address]
-        with contextlib.ExitStack() as stack:
-            listeners = [stack.enter_context(bound(*each)) for each in addresses]
-            server = Server(settings, read, folder, [each.fileno() for each in listeners])
-            for address, listener in zip(addresses, listeners):
-                with naming(*address):
-                    listener.listen(BACKLOG)  # no client waits for the check of the indexes
-            shown = shown_address(listeners[0])
-            for listener in listeners:
-                listener.detach()  # gunicorn closes it
-        print(f"http://{shown}/", flush=True)
-        server.run()
-    finally:
-        if os.getpid() == master:
-            shutil.rmtree(folder, ignore_errors=True)
+    addresses = [(settings.address, settings.port), *settings.metrics_address]
+    with contextlib.ExitStack() as stack:
+        listeners = [stack.enter_context(bound(*each)) for each in addresses]
+        server = Server(settings, read, [each.fileno() for each in listeners])
+        for address, listener in zip(addresses, listeners):
+            with naming(*address):
+                listener.listen(BACKLOG)  # no client waits for the check of the indexes
+        shown = shown_address(listeners[0])
+        for listener in listeners:
+            listener.detach()  # gunicorn closes it
+    print(f"http://{shown}/", flush=True)
+    server.run()

@@ -1,22 +1,23 @@
 """What the workers share: locks of files, flags, and counts for Prometheus."""
-import contextlib
 import fcntl
+import functools
 import http
+import itertools
 import mmap
 import os
-import pathlib
 import struct
-from typing import BinaryIO, Optional
+import sys
+from typing import Any, BinaryIO, Optional
 
 from prometheus_client import CollectorRegistry, generate_latest, multiprocess, values
 from prometheus_client.metrics import Counter, Gauge, Histogram
 from prometheus_client.mmap_dict import MmapedDict
 
-from .refusal import say
-
-FILE = 1 << 16  # bytes of a file of counts, as prometheus_client makes it
-MOST_ADDED = 24  # bytes that the file has for a count beside its name
-MOST_SEATS = 4096  # workers that run at a time
+KINDS = ("counter", "gauge_max", "histogram")  # of counts
+ROOM = 4 << 20  # bytes for the counts of a kind and a seat
+HEAD = 8  # bytes before them, as prometheus_client has it
+MOST_ADDED = 64  # bytes that a count takes beside its name, and those at the end
+MOST_SEATS = 4096  # processes that run at a time
 STATUSES = frozenset(http.HTTPStatus)  # that are counted by themselves, as an archive may have any other
 BOUNDS = (0.005, 0.01, 0.025, 0.05, 0.1, 0.25, 0.5, 1.0, 2.5, 5.0, 10.0, 30.0)  # seconds
 
@@ -61,65 +62,54 @@ class Flag:
         return bool(self._memory[0])
 
 
-class CountsFile(MmapedDict):  # type: ignore[misc]
-    """A file of counts that has room for them: a process ends that writes to a page of a file for which the disk has none.
+class Counts(MmapedDict):  # type: ignore[misc]
+    """The counts of a kind and a seat. They are in memory, and prometheus_client asks for them by the name of a file.
 
-    Without room the counts go on in memory, where nobody reads them. The process says so once.
+    So no disk has to have room for them. Those for which this memory has no room are lost.
     """
 
-    is_told = False
+    def __init__(self, name: str) -> None:
+        kind, _, seat = name.removesuffix(".db").rpartition("_")
+        offset = (int(seat) * len(KINDS) + KINDS.index(kind)) * ROOM
+        self._f, self._capacity = None, ROOM
+        self._m = mmap.mmap(counts_file(), ROOM, offset=offset)
+        self._used = max(int.from_bytes(self._m[:4], sys.byteorder), HEAD)
+        self._positions = {each[0]: each[-1] for each in self._read_all_values()}
 
-    def __init__(self, filename: str) -> None:
-        try:
-            allocate(filename)
-            super().__init__(filename)
-        except OSError as error:
-            self._go_on_in_memory(error)
+    @property
+    def has_any(self) -> bool:
+        return bool(self._positions)
+
+    @staticmethod
+    def read_all_values_from_file(name: str) -> Any:
+        return Counts(name)._read_all_values()
 
     def _init_value(self, key: str) -> None:
-        if self._used + len(key.encode()) + MOST_ADDED > self._capacity:
-            try:
-                os.posix_fallocate(self._f.fileno(), 0, 2 * self._capacity)
-            except OSError as error:
-                self._go_on_in_memory(error, self._m[:])
-        super()._init_value(key)
-
-    def _go_on_in_memory(self, error: OSError, counted: bytes = b"") -> None:
-        with open(os.memfd_create("counts"), "wb") as file:
-            file.write(counted)
-            file.flush()
-            super().__init__(f"/proc/self/fd/{file.fileno()}")
-        if not CountsFile.is_told:
-            CountsFile.is_told = True
-            say(f"a process has no room for its counts, which are lost: {error.strerror}")
+        if self._used + len(key.encode()) + MOST_ADDED > ROOM:
+            self._positions[key] = ROOM - HEAD - HEAD  # where nobody reads it
+        else:
+            super()._init_value(key)
 
 
-def allocate(name: "str | os.PathLike[str]") -> None:
-    """Makes a file of counts, for which the disk has room. Raises OSError, and then leaves no empty file."""
-    with open(name, "ab") as file:  # of which another process may have a part already
-        try:
-            os.posix_fallocate(file.fileno(), 0, FILE)
-        except OSError:
-            if not os.fstat(file.fileno()).st_size:
-                os.unlink(name)
-            raise
+@functools.cache
+def counts_file() -> int:
+    """Returns the file in memory that has all counts. The system has what of it is used."""
+    file = os.memfd_create("counts")
+    os.truncate(file, MOST_SEATS * len(KINDS) * ROOM)
+    return file
 
 
 class Metrics:
-    """Counts of all workers since the start, in files of a folder.
+    """Counts of this process and of its workers since the start.
 
-    A worker has the files of a seat. Its successor goes on with them. They are filled at the start.
+    Each of them has a seat, and its successor goes on with the counts of that.
     """
 
-    def __init__(self, folder: pathlib.Path, workers: int = 1) -> None:
-        self._folder = folder
+    def __init__(self) -> None:
         self._seats = Slots()
-        self._seat = "master"
-        seats = "master", *map(str, range(2 * workers))
-        self._files = [folder / f"{kind}_{seat}.db" for seat in seats for kind in ("counter", "gauge_max", "histogram")]
-        self._fill()
-        os.environ["PROMETHEUS_MULTIPROC_DIR"] = str(folder)
-        values.MmapedDict = CountsFile
+        self._seat, self._taken = 0, self._seats.take_one(0)  # which stays open
+        os.environ["PROMETHEUS_MULTIPROC_DIR"] = ""
+        values.MmapedDict = multiprocess.MmapedDict = Counts
         values.ValueClass = values.MultiProcessValue(lambda: self._seat)
         # The registry is of this object, as a master that reads its settings again has another one.
         registry = CollectorRegistry()
@@ -152,24 +142,17 @@ class Metrics:
         """Takes a seat, in a new worker."""
         for number in range(MOST_SEATS):
             if (taken := self._seats.take_one(number)) is not None:
-                self._seat, self._taken = str(number), taken  # which stays open
+                if self._taken is not None:
+                    self._taken.close()  # which the master has too
+                self._seat, self._taken = number, taken
                 break
-        self.keep()
-        self.bytes.inc(0)  # which opens the files of the seat
+        self.bytes.inc(0)  # so that the seat has a count
 
-    def keep(self) -> None:
-        """Makes the folder anew if it is gone, as by a cleaner of old files. What was counted is lost."""
-        with contextlib.suppress(OSError):
-            if not self._folder.exists():
-                self._folder.mkdir(mode=0o700)
-                self._fill()
-
-    def _fill(self) -> None:
-        for name in self._files:
-            allocate(name)
+    def collect(self) -> Any:
+        """Returns all counts, for `text`."""
+        seats = itertools.takewhile(lambda seat: Counts(f"counter_{seat}.db").has_any, itertools.count())
+        return multiprocess.MultiProcessCollector.merge([f"{kind}_{seat}.db" for seat in seats for kind in KINDS])
 
     def text(self) -> bytes:
         """Returns all counts in the text format of Prometheus."""
-        registry = CollectorRegistry()
-        multiprocess.MultiProcessCollector(registry, str(self._folder))
-        return bytes(generate_latest(registry))
+        return bytes(generate_latest(self))
