@@ -29,7 +29,8 @@ _OTHER_SCHEMES = re.compile(r"(?:[a-z][a-z0-9+.-]*:)+//", re.IGNORECASE)  # as o
 SETTLED = 2.0  # seconds for which a file has stayed as it is before it is read again
 AGAIN = 60.0  # seconds until a file is read again that couldn't be read, as for want of memory
 _STAMP = re.compile("[0-9]{1,14}")
-_DIGEST = re.compile("[!-~]+")
+# Of MD5, SHA-1, SHA-256 or SHA-512 in base 32 or 16, or of any algorithm with its name.
+_DIGEST = re.compile("(?:[A-Z2-7]{26}|[A-Z2-7]{32}|[A-Z2-7]{52}|[A-Z2-7]{103})=*|(?:[0-9A-F]{32}){1,4}|[A-Z][A-Z0-9-]*:[!-~]+")
 _HEX_OF_SHA1 = re.compile("[0-9A-F]{40}")
 # How the key of a web URL begins.
 _OF_WEB = re.compile(r"(?:\[[^]/)]*\]|[^][/:)]+)(?::[0-9]+)?\)")
@@ -241,7 +242,10 @@ def check(number: int, table: dict[str, Any], collections: Sequence[str]) -> Non
         expect(bool(_STAMP.fullmatch(table.get(name, "0"))), f"'{name}' has to be 1 to 14 digits")
     first, last = table.get("from", "0"), table.get("to", "9")
     expect(first[: len(last)] <= last[: len(first)], "'from' is after 'to'")
-    expect(bool(_DIGEST.fullmatch(plain_digest(table.get("digest", "0")))), "'digest' can't be one")
+    is_digest = "digest" not in table or bool(_DIGEST.fullmatch(plain_digest(table["digest"])))
+    expect(is_digest, "'digest' can't be one: it is in base 32 or 16, or has the name of its algorithm before it, as sha1:")
+    key = table.get("key", "")
+    expect(not key.lower().startswith(WEB) and " " not in key, "'key' is a URL key such as com,example)/a, and has no blank")
     expect(table.get("collection", "") in ("", *collections), f"there is no collection '{table.get('collection')}'")
     expect(len(table) > 1, f"it names nothing: it needs one of {', '.join(NAMES[1:])}")
     expect(sum(name in table for name in TARGETS) < 2, f"it has more than one of {', '.join(TARGETS)}")
