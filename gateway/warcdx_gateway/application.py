@@ -180,7 +180,7 @@ class Gateway:
     def failed(self, request: GatewayRequest, name: str, error: BaseException) -> Response:
         """Returns the plain response to a request that has met an error."""
         if isinstance(error, Refused):
-            error = program_refusal(error.name, request.args)
+            error = program_refusal(error, request.args)
         elif isinstance(error, ReplyTooLate):
             error = Refusal("TooSlow", "", "it takes too long; restrict the query", status=503)
         elif isinstance(error, (ReplyTooLong, MemoryError)):

@@ -11,7 +11,7 @@ from warcdx.record import Head
 
 from ..collection import Collection
 from ..history import MOST, Ask, History, before_time, quoted, resumed
-from .dates import timestamp_of
+from .dates import recorded
 from .markup import Link, link
 from .searching import NotShown
 
@@ -104,7 +104,7 @@ def original_of(ask: Ask, head: Head) -> Optional[Capture]:
 
 def before(ask: Ask, url: str, head: Head) -> Optional[Capture]:
     """Returns the last capture before a record that has a payload of a URL, or None."""
-    timestamp = timestamp_of(head.field("WARC-Date") or "")
+    timestamp = recorded(head)
     history = History(ask, url=url).where("mimetype", REVISIT, "isnot").where("statuscode", "304", "isnot")
     return history.before(timestamp) if timestamp else None
 

@@ -172,7 +172,7 @@ def _file_name(download: Download, place: Place, what: str) -> str:
     if what == "record":
         return f"{place.filename}-{place.offset}.warc"
     path = target_of(download.head).partition("?")[0].partition("#")[0].rstrip("/")
-    timestamp = dates.timestamp_of(download.head.field("WARC-Date") or "") or str(place.offset)
+    timestamp = dates.recorded(download.head) or str(place.offset)
     return f"{timestamp}-{responses.file_name(path)}"
 
 
