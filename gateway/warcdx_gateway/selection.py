@@ -13,7 +13,23 @@ from .conditions import Conditions
 from .history import LAST_PLACE
 from .plan import Plan, with_key
 from .ranges import Positions, Range
-from .rows import DIGEST, KEY, MIME, PLACES, STAMP, STATUS, UNKNOWN_PART, Collapser, Grouper, Output, Part, Row, row_of_line, row_of_values
+from .rows import (
+    DIGEST,
+    KEY,
+    MIME,
+    PLACES,
+    STAMP,
+    STATUS,
+    UNKNOWN_PART,
+    Collapser,
+    Grouper,
+    Output,
+    Part,
+    Row,
+    resume_key,
+    row_of_line,
+    row_of_values,
+)
 from .settings import Limits
 
 ORIGINAL = ("digest", "mimetype", "statuscode", "length", "offset", "filename")
@@ -191,12 +207,16 @@ class Selection:
         if len(place) < 3:
             return None
         name, _, offset = place[2].rpartition(" ")
+        row = row_of_values([*place[:2], *"-----", offset, name])
         if self._plan.collapses_places:
-            return row_of_values([*place[:2], *"-----", offset, name])
-        conditions = f"is={quote_plus('filename:' + name)}&is={quote_plus('offset:' + offset)}"
-        query = f"key={quote_plus(place[0])}&from={place[1]}&to={place[1]}&{conditions}"
-        found = [row for rows in self._source.values(query, limit=1) for row in rows]
-        return row_of_values(found[0]) if found else None
+            return row
+        # A resume key is searched for, while all captures before `from` are read. But it has no offset below 0.
+        query = f"from={place[1]}&to={place[1]}&is={quote_plus('filename:' + name)}&is=offset:0"
+        if int(offset):
+            query = "resumeKey=" + quote_plus(" ".join((*place[:2], name, str(int(offset) - 1))))
+        groups = self._source.values(f"key={quote_plus(place[0])}&{query}", limit=1)
+        found = next((row_of_values(values) for group in groups for values in group), None)
+        return found if found and resume_key(found) == resume_key(row) else None
 
 
 class Resolver:
