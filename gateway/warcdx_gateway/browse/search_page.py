@@ -97,6 +97,10 @@ def nothing(search: Search) -> Markup:
     if search.is_single and search.typed:
         for match, words in (("prefix", "Search for URLs that begin with it"), ("host", "Search the whole host")):
             hints.append(element("li", element("a", words, href=search.ever().link("search", match=match))))
+    if search.is_single and "*" in search.typed:
+        hints.append(
+            element("li", "A * stands for what follows it only at the end of a URL, and for the hosts below one only as *. in front.")
+        )
     when = ""
     if search.first or search.last:
         first, last = (dates.typed(each) for each in (search.first, search.last))
