@@ -60,18 +60,20 @@ class Sent:
             found.setsockopt(socket.SOL_SOCKET, socket.SO_LINGER, struct.pack("ii", 1, 0))
 
 
-def streamed(pieces: Generator[bytes, None, None], headers: list[tuple[str, str]], work: Work, status: int = 200) -> Response:
+def streamed(
+    pieces: Generator[bytes, None, None], headers: list[tuple[str, str]], work: Work, status: int = 200, most: int = MOST_FREE
+) -> Response:
     """Returns an answer whose pieces are made when they are sent.
 
-    The first ones are made at once. So what fails until then has a status, and a short answer has
-    a length.
+    The first ones are made at once. So what fails until then has a status, and an answer of at most `most` bytes has a
+    length.
     """
     begun, size = list[bytes](), 0
     for piece in pieces:
         begun.append(piece)
         size += len(piece)
-        if size > MOST_FREE:
-            work.expect_slot()
+        work.expect_slot(size)
+        if size > most:
             response = Response(itertools.chain(begun, pieces), status, headers)
             response.call_on_close(pieces.close)
             return response

@@ -96,9 +96,8 @@ class RawCapture:
         if location:
             headers["Location"] = location
         size = record.stored_length if what == "stored" else None
-        pieces = reading.Download(self._stack, record, what, self._collection.work)
-        held = pieces.held(MOST_HELD)
-        response = Response(pieces if held is None else held, status, headers)
+        pieces = reading.pieces_of(self._stack, record, what, self._collection.work)
+        response = streamed(pieces, [*headers.items()], self._collection.work, status, MOST_HELD)
         kind = visible(read.content_type) if window is None else window_type(read)
         response.headers["Content-Type"] = kind or OTHER_TYPE
         if head is not None:
@@ -106,7 +105,7 @@ class RawCapture:
         for name, value in archived_fields(head.fields if head else ()):
             response.headers.add(ARCHIVED + name, value)
         response.set_etag(tag_of(what, *self._states))
-        return conditional(response, self._request, size if held is None else len(held))
+        return conditional(response, self._request, size)
 
     def _opened(self, capture: Capture) -> RecordStream:
         self._states.append(reading.state_of(self._collection, capture))
@@ -172,7 +171,7 @@ def tag_of(what: str, *states: str) -> str:
 
 
 def conditional(response: Response, request: Request, size: Optional[int]) -> Response:
-    """Returns an answer by the conditions of its request, and if it has `size` bytes by its range.
+    """Returns an answer by the conditions of its request, and by its range if it has `size` bytes, or isn't streamed.
 
     RFC 9110, sections 13 and 14: only what has status 200 has them, and only GET has a range.
     """
@@ -186,6 +185,7 @@ def conditional(response: Response, request: Request, size: Optional[int]) -> Re
     if has_tag(request.headers.get("If-None-Match", ""), tag):
         response.close()
         return Response(b"", NOT_MODIFIED, response.headers)
+    size = size if response.is_streamed else len(response.get_data())
     if size is None:
         return response
     response.content_length = size
