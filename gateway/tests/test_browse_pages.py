@@ -237,8 +237,6 @@ class Reading(support.Pages):
                 self.get(path, 404, **{**place, name: value})
         for name in ("offset", "timestamp", "key"):
             self.get("record", 400, **{**place, name: ""})
-        by_url = {**place, "key": "", "url": "https://EXAMPLE.com"}
-        self.assertIn("09:34:31", text_of(self.get("record", **by_url)))
 
     def test_records_of_other_types_are_shown(self) -> None:
         found = text_of(self.get("record", **self.place("http://example.org/note")))
