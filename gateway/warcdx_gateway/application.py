@@ -22,7 +22,7 @@ from .parameters import Form
 from .plan import Plan, plan_of
 from .refusal import TEXT, Refusal, http_response, program_refusal, say, text_of
 from .rows import Output
-from .sending import Sent, streamed
+from .sending import sent, streamed
 from .settings import Settings, is_loopback
 from .shared import Metrics
 from .waiting import address_of
@@ -144,7 +144,7 @@ class Gateway:
         response.headers.setdefault("Cache-Control", "no-cache")  # what may be shown changes
         if name and self.settings.origins:
             self._share(response, environ.get("HTTP_ORIGIN", ""))
-        return Sent(self.work, self.metrics, environ, start, response(environ, start_response))
+        return sent(self.work, self.metrics, environ, start, response(environ, start_response))
 
     def _answer(self, request: GatewayRequest) -> tuple[str, Response]:
         """Returns the name of the collection, if there is one, and what answers."""
