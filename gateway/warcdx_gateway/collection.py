@@ -131,20 +131,16 @@ class Source:
     """
 
     def __init__(self, collection: Collection) -> None:
-        self.rules = collection.rules
+        self.rules, self.program, self.work = collection.rules, collection.program, collection.work
+        self._collection = collection
         self._index = collection.index
-        self._expect_unchanged = collection.expect_unchanged
-        self._piece = collection.limits.query
-        self.program = collection.program
-        self._generation = collection.generation
         self._origins: list[tuple[int, int]] = []  # of a part: a file of the index, and its offset there
-        self.work = collection.work
 
     @property
     def files(self) -> list[Lines]:
         """The files of the index, which are those that were checked."""
-        sizes = (each.size for each in self._generation.stamp)
-        return [Lines(*each) for each in zip(itertools.count(), self._generation.files, sizes)]
+        generation = self._collection.generation
+        return [Lines(n, file, each.size) for n, (file, each) in enumerate(zip(generation.files, generation.stamp))]
 
     @contextlib.contextmanager
     def part(self, lines: Range) -> Iterator["Source"]:
@@ -165,7 +161,7 @@ class Source:
                     names.append(name_of(copied))
                     origins.append((number, start))
                     self.work.go_on()
-            self._expect_unchanged()
+            self._collection.expect_unchanged()
             found = copy.copy(self)
             found._index = stack.enter_context(Index(names, program=self.program))
             found._origins = origins
@@ -173,7 +169,7 @@ class Source:
 
     def check(self) -> None:
         """Bounds the next piece of a reply. Raises what ends the work."""
-        self._index.seconds = self.work.seconds(self._piece)
+        self._index.seconds = self.work.seconds(self._collection.limits.query)
         self._index.waits = self.work.go_on  # so that a client that leaves is noticed
 
     def pieces(self, query: str) -> Iterator[bytes]:
@@ -181,11 +177,11 @@ class Source:
         self.check()
         try:
             for piece in self._index.stream(query):
-                self._expect_unchanged()
+                self._collection.expect_unchanged()
                 yield piece
                 self.check()
         except Fault as fault:
-            self._expect_unchanged()
+            self._collection.expect_unchanged()
             if self._origins and fault.number is not None and fault.offset is not None:
                 fault.number, start = self._origins[fault.number]
                 fault.offset += start
@@ -193,7 +189,7 @@ class Source:
         except ReplyTooLate:
             self.work.go_on()
             raise
-        self._expect_unchanged()
+        self._collection.expect_unchanged()
 
     def lines(self, query: str) -> Iterator[list[bytes]]:
         """Yields the lines of a page, each time those that a piece has ended."""
