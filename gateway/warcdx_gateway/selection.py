@@ -59,12 +59,13 @@ class Stretch(NamedTuple):
         return self.ends == self.whole.ends
 
 
-def backwards(lines: Range, size: int = LEAST_PART) -> Iterator[Stretch]:
-    """Yields longer and longer ends of a range, the last of which is the whole of it."""
+def around(lines: Range, middle: Positions, size: int = LEAST_PART) -> Iterator[Stretch]:
+    """Yields longer and longer stretches of a range on both sides of a position, the last of which is the whole of it."""
+    before, after = lines.between(lines.starts, middle), lines.between(middle, lines.ends)
     while True:
-        starts = lines.after(lines.size - size)
-        yield Stretch(lines, starts, lines.ends)
-        if starts == lines.starts:
+        found = Stretch(lines, before.after(before.size - size), after.after(size))
+        yield found
+        if found.is_whole:
             return
         size *= GROWTH
 
@@ -176,7 +177,8 @@ class Selection:
         if self._is_apart:
             return [UNKNOWN_PART] * len(collapses)
         if self._stretch is not None and collapses:
-            for stretch in backwards(self._before_it(self._stretch.starts)):
+            before = self._before_it(self._stretch.starts)
+            for stretch in around(before, before.ends):
                 is_whole = stretch.starts == stretch.whole.starts
                 begun = Collapser(collapses, [None if is_whole else UNKNOWN_PART] * len(collapses))
                 for rows in self._passed(self._of(stretch).sources()):
@@ -187,7 +189,7 @@ class Selection:
 
     def _key_before(self, starts: Positions) -> Optional[str]:
         """Returns the resume key of the last capture before a position, for the program's collapse."""
-        for stretch in backwards(self._before_it(starts)):
+        for stretch in around(self._before_it(starts), starts):
             last = b""
             for part in stretch.parts():
                 with self._source.part(part) as source:
