@@ -121,7 +121,7 @@ class Metrics:
         self.refusals = counter("refusals", "Queries that were refused.", "cause")
         self.broken = counter("broken_answers", "Answers that were broken off.", "cause")
         self.bytes = counter("answer_bytes", "Bytes of answers.")
-        self.ended = counter("ended_workers", "Workers that were ended, or have failed.")
+        self.ended = counter("ended_workers", "Workers that have ended, but for those that others have replaced.")
         self.renewals = counter("index_renewals", "Indexes that were replaced and opened.", "collection", "result")
         self.old_indexes = Gauge(
             "warcdx_gateway_old_indexes",
