@@ -108,13 +108,14 @@ class Changes(Checked):
         """It was told to end while it was stopped."""
         self.put(lines(PAGES))
         server = self.start()
-        idle = server.workers()[0]
+        idle, *busy = server.workers()
         os.kill(idle, signal.SIGSTOP)
         self.addCleanup(self.go_on, idle)
         self.replace(lines(PAGES, size=9))
         self.wait_for(lambda: b"xxxxxxxxx" in server.ask(ALL).body, "the index isn't seen")
         self.write_in_place(disorders()["reversed"])
         self.wait_for(lambda: server.ask(ALL).status == 503, "it is used")
+        self.wait_for(lambda: not set(busy) & set(server.workers()), "the others weren't told")
         self.assertIn(idle, server.workers())
         self.go_on(idle)
         for path in (ALL, "/cdx?url=example.com/0000001") * 9:
