@@ -114,10 +114,12 @@ class Scarce(unittest.TestCase):
                     clock.return_value += seconds
                     master.manage_workers()
                     self.assertEqual(started, done["spawn_worker"].call_count)
+                done["kill_worker"].assert_not_called()
                 master.WORKERS[2] = mock.Mock(state=2, age=2)  # which has begun
-                master.manage_workers()
-                self.assertEqual(4, done["spawn_worker"].call_count)
-            done["kill_worker"].assert_not_called()
+                for _ in range(2):
+                    master.manage_workers()
+                self.assertEqual(6, done["spawn_worker"].call_count)
+            done["kill_worker"].assert_called_once_with(old.pid, signal.SIGTERM)
         master.log.error.assert_called_once()
 
     def test_a_worker_that_can_not_be_started_is_tried_again(self) -> None:

@@ -12,7 +12,7 @@ import socket
 import struct
 import sys
 import time
-from collections.abc import Iterable, Sequence
+from collections.abc import Iterable
 from types import FrameType
 from typing import Any, Optional
 
@@ -32,7 +32,7 @@ LATER = (signal.SIGHUP, signal.SIGUSR1)  # which wait until the gateway answers
 MASTER = os.getpid()  # which loads this
 SILENCE = 2  # seconds for a client to send its request when a worker ends
 AGAIN = 10  # seconds until workers are started again, after one has failed before it answered
-PAUSE = 0.05  # seconds until a worker looks again for a slot for those that wait, and the master whether new workers have begun
+PAUSE = 0.05  # seconds until a worker looks again for a slot for those that wait, and the master whether a new worker has begun
 VERSIONS = ((1, 0), (1, 1))
 _CONTROL = re.compile("[\0-\x1f\x7f]")  # which no target of a request has
 _END = re.compile("[\0\r\n]")  # what other servers may take for the end of a field
@@ -111,7 +111,7 @@ class Master(gunicorn.arbiter.Arbiter):
     is_told = False  # that no worker can be started now
     has_begun = False  # a worker, ever
     has_failed = False  # a worker before it answered
-    _replaced: Sequence["Worker"] = ()  # which end when others have begun
+    _is_waiting = False  # for new workers to begin, so that others can end
     _again = 0.0  # when workers may be started again, after one has failed before it answered
 
     def reap_workers(self) -> None:
@@ -141,7 +141,7 @@ class Master(gunicorn.arbiter.Arbiter):
     def manage_workers(self) -> None:
         """Starts and ends workers, so that there are as many as there should be, of the present state.
 
-        Those of another state are told to end when the new ones have begun, so that somebody answers.
+        Those of another state are told to end when a new one has begun, so that somebody answers.
         """
         self.reap_workers()  # also one that has ended before it was known
         self.has_begun |= any(each.tmp.has_begun for each in self._of_state(True) + self._of_state(False))
@@ -160,13 +160,12 @@ class Master(gunicorn.arbiter.Arbiter):
         for _ in range(min(missing, int(time.monotonic() >= self._again)) if self._again else missing):
             self.spawn_worker()
         present = self._of_state(True)
-        self._replaced = [each for each in self._of_state(False) + present[: -self.num_workers] if not each.is_told]
-        if len(present) < self.num_workers:
-            self._replaced = []
-        elif all(each.tmp.has_begun for each in present):
-            for worker in self._replaced:
-                worker.is_told = True
-                self.kill_worker(worker.pid, signal.SIGTERM)
+        replaced = [each for each in self._of_state(False) + present[: -self.num_workers] if not each.is_told]
+        has_begun = any(each.tmp.has_begun for each in present)
+        for worker in replaced if has_begun else ():
+            worker.is_told = True
+            self.kill_worker(worker.pid, signal.SIGTERM)
+        self._is_waiting = bool(replaced) and not has_begun and not self._again
 
     def _of_state(self, is_present: bool) -> "list[Worker]":
         """Returns the workers of the present state, or of others, by their age."""
@@ -175,7 +174,7 @@ class Master(gunicorn.arbiter.Arbiter):
 
     def sleep(self) -> None:
         """Waits for a signal, a second at most. gunicorn's own would end the gateway if it has a thousand files open."""
-        poll_of([self.PIPE[0]]).poll(1000 * (PAUSE if self._replaced else 1))
+        poll_of([self.PIPE[0]]).poll(1000 * (PAUSE if self._is_waiting else 1))
         with contextlib.suppress(BlockingIOError):
             os.read(self.PIPE[0], 64)  # a byte for each signal
 
