@@ -62,7 +62,7 @@ def seconds_of(settings: Settings, query: str) -> float:
         collection.index.text(ONE)
         start = time.perf_counter()
         plan = plan_of(query, Form.WAYBACK, settings.limits, True)
-        for _ in Answers(settings.limits).pieces(plan, Source(collection, 30), collection.tag):
+        for _ in Answers(settings.limits).pieces(plan, Source(collection), collection.tag):
             pass
         return time.perf_counter() - start
 

@@ -58,7 +58,8 @@ class Answers:
         """Yields captures in another order, or whose duplicates are counted. No more lines are read than have them for sure."""
         held = self._limits.held
         for stretch in itertools.chain(stretches(plan, source, held), (None,)):
-            selection = Selection(plan, source, self._limits, plan.resume_key, stretch, is_apart=stretch is not None)
+            is_apart = stretch is not None and stretch.starts != stretch.whole.starts
+            selection = Selection(plan, source, self._limits, plan.resume_key, stretch, is_apart)
             numbers = (nearest if plan.order is Order.CLOSEST else last)(plan, selection.timestamps(), held, stretch)
             if numbers is not None:
                 yield from ordered(plan, selection, numbers)

@@ -1,10 +1,25 @@
-"""What a process does first that was just started: it bounds itself, and ends with the one that has started it."""
+"""Processes and those that they start, which bound themselves, end with who has started them, and know what that says."""
 import ctypes
 import functools
+import mmap
 import os
 import resource
 
 _PARENT_DEATH_SIGNAL = 1  # PR_SET_PDEATHSIG of prctl(2)
+
+
+class Flag:
+    """Whether something is so: one process says it, and the ones that it has started know it at once."""
+
+    def __init__(self, value: bool) -> None:
+        self._memory = mmap.mmap(-1, 1)
+        self.set(value)
+
+    def set(self, value: bool) -> None:
+        self._memory[0] = value
+
+    def __bool__(self) -> bool:
+        return bool(self._memory[0])
 
 
 def end_with_parent(parent: int, number: int) -> None:

@@ -13,12 +13,12 @@ from typing import Optional
 from warcdx import FIELDS, Capture, Fault, Index, ReplyTooLate
 from warcdx.program import memory_file
 
+from .children import Flag
 from .generation import Generation, name_of
 from .ranges import Lines, Range
 from .refusal import Refusal
 from .rules import ALL_SHOWN, Action, Rules
 from .settings import CollectionSettings, Settings
-from .shared import Flag
 from .work import UNBOUNDED, Work
 
 MOST_COPIED = 64 << 20  # bytes of lines in memory, usually a tenth of it

@@ -13,23 +13,8 @@ from .conditions import Conditions
 from .history import LAST_PLACE
 from .plan import Plan, with_key
 from .ranges import Positions, Range
-from .rows import (
-    DIGEST,
-    KEY,
-    MIME,
-    PLACES,
-    STAMP,
-    STATUS,
-    UNKNOWN_PART,
-    Collapser,
-    Grouper,
-    Output,
-    Part,
-    Row,
-    resume_key,
-    row_of_line,
-    row_of_values,
-)
+from .rows import DIGEST, KEY, MIME, PLACES, STAMP, STATUS, UNKNOWN_PART
+from .rows import Collapser, Grouper, Output, Part, Row, resume_key, row_of_line, row_of_values
 from .settings import Limits
 
 ORIGINAL = ("digest", "mimetype", "statuscode", "length", "offset", "filename")

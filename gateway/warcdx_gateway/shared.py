@@ -1,4 +1,4 @@
-"""What the workers share: locks of files, flags, and counts for Prometheus."""
+"""What the workers share: locks of files, and counts for Prometheus."""
 import fcntl
 import functools
 import http
@@ -46,20 +46,6 @@ class Slots:
 
     def close(self) -> None:
         os.close(self._file)
-
-
-class Flag:
-    """Whether something is so: one process says it, and the ones that it has started know it at once."""
-
-    def __init__(self, value: bool) -> None:
-        self._memory = mmap.mmap(-1, 1)
-        self.set(value)
-
-    def set(self, value: bool) -> None:
-        self._memory[0] = value
-
-    def __bool__(self) -> bool:
-        return bool(self._memory[0])
 
 
 class Counts(MmapedDict):  # type: ignore[misc]

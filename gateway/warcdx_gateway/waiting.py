@@ -15,8 +15,9 @@ import time
 from collections.abc import Iterator
 from typing import Optional
 
+from .children import Flag
 from .settings import is_loopback
-from .shared import Flag, Slots
+from .shared import Slots
 from .work import Connection, Lease
 
 QUEUES = 32  # the addresses of clients are spread over all but the first
