@@ -2,7 +2,6 @@
 
 The variable WARCDX names the program, or else it is `warcdx` of the PATH. `warcdx-gz` belongs to it.
 """
-import atexit
 import base64
 import contextlib
 import functools
@@ -14,7 +13,6 @@ import json
 import os
 import pathlib
 import re
-import shutil
 import sys
 import tempfile
 import threading
@@ -37,7 +35,7 @@ from warcdx_gateway.application import Gateway  # noqa: E402
 from warcdx_gateway.collection import Collection  # noqa: E402
 from warcdx_gateway.generation import Generation  # noqa: E402
 from warcdx_gateway.settings import CollectionSettings, Settings  # noqa: E402
-from warcdx_gateway.shared import Board, Metrics  # noqa: E402
+from warcdx_gateway.shared import Metrics  # noqa: E402
 
 PROGRAM = os.environ.get("WARCDX", "warcdx")
 SAMPLES = GATEWAY.parent / "samples"
@@ -161,15 +159,13 @@ def gateway_of(test: unittest.TestCase, settings: Settings) -> Gateway:
     collections = {each.name: Collection(each, settings, Generation(each.indexes)) for each in settings.collections}
     for each in collections.values():
         test.addCleanup(each.close)
-    return Gateway(settings, collections, metrics(), Board(1024), Board(1024))
+    return Gateway(settings, collections, metrics())
 
 
 @functools.cache
 def metrics() -> Metrics:
-    """Returns the counts of all gateways of these tests, whose files are open until the end."""
-    folder = tempfile.mkdtemp()
-    atexit.register(shutil.rmtree, folder)
-    return Metrics(pathlib.Path(folder))
+    """Returns the counts of all gateways of these tests."""
+    return Metrics()
 
 
 @contextlib.contextmanager

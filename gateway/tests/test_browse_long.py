@@ -51,12 +51,9 @@ class LongRecords(support.Pages):
 
     def test_a_member_of_several_records_has_no_page(self) -> None:
         place = self.place_at("two.warc.gz", 0)
-        for name in ("record", "payload"):
-            text = text_of(self.get(name, 502, **place))
+        for name, more in (("record", {}), ("payload", {}), ("download", {"what": "record"}), ("download", {"what": "payload"})):
+            text = text_of(self.get(name, 502, **more, **place))
             self.assertIn("The archive is damaged at byte 0: SeveralRecords.", text)
-        for what in ("record", "payload"):
-            with self.assertRaises(BrokenPipeError):
-                self.ask("download", what=what, **place).get_data()
 
     def test_what_follows_a_record_in_its_member_takes_bounded_time(self) -> None:
         self.get("captures", url=HOME)

@@ -158,6 +158,15 @@ class Reading(support.Pages):
         ):
             self.assertIn(words, text_of(self.get("search", 400, **query)), query)
 
+    def test_a_star_that_stands_for_itself_is_explained(self) -> None:
+        for typed, is_explained in (
+            ("example.com/*/a", True),
+            ("*example.com", True),
+            ("example.com/nothing", False),
+            ("nothing.example/*", False),
+        ):
+            self.assertEqual(is_explained, "stands for what follows it only at the end" in text_of(self.get("search", url=typed)), typed)
+
     def test_nothing_found_offers_wider_searches(self) -> None:
         found = self.get("search", url="example.com/nothing", from_="2016")
         self.assertIn("The collection has no capture of this in the time from 2016 to the last.", text_of(found))
@@ -228,8 +237,6 @@ class Reading(support.Pages):
                 self.get(path, 404, **{**place, name: value})
         for name in ("offset", "timestamp", "key"):
             self.get("record", 400, **{**place, name: ""})
-        by_url = {**place, "key": "", "url": "https://EXAMPLE.com"}
-        self.assertIn("09:34:31", text_of(self.get("record", **by_url)))
 
     def test_records_of_other_types_are_shown(self) -> None:
         found = text_of(self.get("record", **self.place("http://example.org/note")))

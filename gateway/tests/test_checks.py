@@ -105,32 +105,31 @@ class Changes(Checked):
         self.assertIn("an index in use was changed: replace indexes by mv", server.said.read_text())
 
     def test_a_worker_that_had_no_request_answers_from_no_earlier_index(self) -> None:
-        """It has the files of before, and can't have those that it should, as they are changed."""
+        """It was told to end while it was stopped."""
         self.put(lines(PAGES))
         server = self.start()
         idle, *busy = server.workers()
         os.kill(idle, signal.SIGSTOP)
-        self.addCleanup(self.go_on, idle, *busy)
+        self.addCleanup(self.go_on, idle)
         self.replace(lines(PAGES, size=9))
         self.wait_for(lambda: b"xxxxxxxxx" in server.ask(ALL).body, "the index isn't seen")
         self.write_in_place(disorders()["reversed"])
         self.wait_for(lambda: server.ask(ALL).status == 503, "it is used")
-        for worker in busy:
-            os.kill(worker, signal.SIGSTOP)
+        self.wait_for(lambda: not set(busy) & set(server.workers()), "the others weren't told")
+        self.assertIn(idle, server.workers())
         self.go_on(idle)
-        for path in (ALL, "/cdx?url=example.com/0000001"):
+        for path in (ALL, "/cdx?url=example.com/0000001") * 9:
             found = server.ask(path)
             self.assertEqual(503, found.status)
             self.assertIn("refused Changed: ", found.text)
         self.assertEqual(503, server.ask("/health").status)
-        self.go_on(*busy)
+        self.wait_for(lambda: idle not in server.workers(), "it goes on")
         self.replace(lines(PAGES))
         self.wait_for(lambda: not self.ask_pages(server), "it doesn't answer again")
 
-    def go_on(self, *workers: int) -> None:
-        for worker in workers:
-            with contextlib.suppress(ProcessLookupError):
-                os.kill(worker, signal.SIGCONT)
+    def go_on(self, worker: int) -> None:
+        with contextlib.suppress(ProcessLookupError):
+            os.kill(worker, signal.SIGCONT)
 
     def test_a_change_whose_time_is_set_back_is_found(self) -> None:
         path = self.put(lines(PAGES))
@@ -196,14 +195,14 @@ class Folders(Checked):
         server = self.start(program=self.noted())
         self.assertEqual([], self.ask_pages(server))
         self.show(2, ("2", front), ("3", back + last))
-        self.wait_for(lambda: len(self.checks()) == 2, "it isn't checked")
+        self.wait_for(lambda: len(self.checks()) == 3, "they aren't checked")
         self.wait_for(lambda: server.metric("old_indexes") == 0, "it isn't in use")
         self.assertEqual([], self.ask_pages(server))
         self.show(3, ("2", front), ("4", back), ("5", last))
-        self.wait_for(lambda: len(self.checks()) == 3, "it isn't checked")
+        self.wait_for(lambda: len(self.checks()) == 5, "they aren't checked")
         self.wait_for(lambda: server.metric("old_indexes") == 0, "it isn't in use")
         self.assertEqual([], self.ask_pages(server))
-        self.assertEqual(["1", "2", "2"], self.checks())
+        self.assertEqual(["1"] * 5, self.checks())
 
     def test_no_start_over_another_folder(self) -> None:
         (self.folder / "index").mkdir()

@@ -1,12 +1,10 @@
 """HTTP: keep-alive, HEAD, OPTIONS, CORS, tags, limits, health and metrics."""
 import contextlib
 import os
-import pathlib
 import re
 import shutil
 import socket
 import subprocess
-import tempfile
 import unittest
 from unittest import mock
 
@@ -14,7 +12,7 @@ from . import browse_support
 from .support import SAMPLE, WAIT, Case, Shared, connected, lines
 
 from warcdx_gateway.application import FORM
-from warcdx_gateway.shared import CountsFile, Metrics
+from warcdx_gateway.shared import ROOM
 
 
 class Http(Shared):
@@ -250,7 +248,7 @@ class Limits(Case):
 
 class Counts(unittest.TestCase):
     def test_statuses_that_only_archives_have_are_counted_together(self) -> None:
-        """Otherwise their counts would need a file that grows."""
+        """Otherwise who asks for an archive's pages could make many counts."""
         metrics = browse_support.metrics()
         for status in (200, 404, 418, 421, *range(520, 600), *range(230, 290)):
             metrics.count("counted", status)
@@ -258,43 +256,29 @@ class Counts(unittest.TestCase):
         statuses = {re.findall('status="(...)"', line)[0]: float(line.rpartition(" ")[2]) for line in found}
         self.assertEqual({"200": 1, "404": 1, "418": 1, "421": 1, "5xx": 80, "2xx": 60}, statuses)
 
-    def test_a_worker_starts_while_a_cleaner_of_old_files_is_at_work(self) -> None:
-        with tempfile.TemporaryDirectory() as name:
-            folder = pathlib.Path(name, "counts")
-            folder.mkdir()
+    def test_counts_for_which_there_is_no_room_are_lost(self) -> None:
+        """Answers go on, and so do the other counts."""
+        metrics = browse_support.metrics()
+        with mock.patch("warcdx_gateway.shared.MOST_ADDED", ROOM):
+            for number in range(100):
+                metrics.count(f"lost{number}", 200)
+        metrics.count("kept", 200)
+        found = metrics.text()
+        self.assertEqual((False, True), (b"lost" in found, b'"kept"' in found))
+
+    def test_the_counts_of_a_process_go_on_with_its_successor(self) -> None:
+        metrics = browse_support.metrics()
+        for _ in range(3):
             process = os.fork()
             if not process:
                 with contextlib.suppress(BaseException):
-                    metrics = Metrics(folder)
-                    shutil.rmtree(folder)
                     metrics.sit()
+                    metrics.count("seated", 200)
                     os._exit(0)
                 os._exit(1)
             self.assertEqual(0, os.waitpid(process, 0)[1])
-
-    def test_a_worker_whose_counts_have_no_room_goes_on(self) -> None:
-        """The disk is full when it starts, or when a file has to grow. It says so once."""
-        self.enterContext(mock.patch.dict(os.environ))
-        self.enterContext(mock.patch("prometheus_client.values.ValueClass"))
-        full = mock.patch("os.posix_fallocate", side_effect=OSError(28, "No space left on device"))
-        for is_seated in (False, True):
-            folder = pathlib.Path(self.enterContext(tempfile.TemporaryDirectory()))
-            metrics = Metrics(folder)
-            for file in folder.glob("*_0.db"):
-                file.unlink()
-            if is_seated:
-                metrics.sit()
-            with full, mock.patch("warcdx_gateway.shared.say") as said, mock.patch.object(CountsFile, "is_told", False):
-                if not is_seated:
-                    metrics.sit()
-                for number in range(1000):
-                    metrics.count(f"{number:0100}", 200)
-                metrics.seconds.observe(1)
-            said.assert_called_once_with("a process has no room for its counts, which are lost: No space left on device")
-            with mock.patch("warcdx_gateway.shared.allocate", side_effect=AssertionError):  # of a name that another file may have
-                for number in range(1000, 3000):
-                    metrics.count(f"{number:0100}", 200)
-            self.assertEqual(is_seated, b"warcdx_gateway_requests_total{" in metrics.text())
+        found = [line for line in metrics.text().decode().splitlines() if '"seated"' in line]
+        self.assertEqual(['warcdx_gateway_requests_total{collection="seated",status="200"} 3.0'], found)
 
 
 class Browsers(Case):

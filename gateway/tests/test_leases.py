@@ -12,7 +12,6 @@ from typing import Optional
 from unittest import mock
 
 from warcdx_gateway.refusal import Refusal
-from warcdx_gateway.shared import Beat
 from warcdx_gateway.waiting import MOST_LEVEL, QUEUES, Costs, Shares, Waiting, address_of, queue_of
 from warcdx_gateway.workers import Worker
 from warcdx_gateway.work import FREE, MOST_FREE, PATIENCE, Connection, Lease, NeedsSlot, Work
@@ -104,9 +103,13 @@ class Working(unittest.TestCase):
             work.go_on()
 
     def test_a_killed_master_ends_the_work(self) -> None:
-        Beat(lambda: None, os.getppid())()
+        worker = object.__new__(Worker)
+        worker.tmp, worker.ppid = mock.Mock(), os.getppid()
+        worker.beat()
+        worker.ppid = 1 << 30
         with self.assertRaises(ConnectionResetError):
-            Beat(lambda: None, 1 << 30)()
+            worker.beat()
+        self.assertEqual(2, worker.tmp.notify.call_count)
 
     def test_a_connection_is_read_again(self) -> None:
         client, there = pair(Lease.FREE)
@@ -351,13 +354,11 @@ class Served(Case):
         tag = server.ask(SMALL).fields["etag"]
         self.assertEqual([304] * 6, [server.ask(f"{SMALL}&limit={number}", If_None_Match=tag).status for number in range(1, 7)])
 
-    def test_a_disk_that_is_full_later_ends_nothing(self) -> None:
-        """All files are made at the start, those of later workers too."""
-        runtime = self.folder / "runtime"
-        runtime.mkdir()
-        with mock.patch.dict(os.environ, {"RUNTIME_DIRECTORY": str(runtime)}):
+    def test_a_disk_that_is_full_ends_nothing(self) -> None:
+        """No process makes a file."""
+        with mock.patch.dict(os.environ, {"TMPDIR": str(self.folder)}):
             server = self.start(head="workers = 3\nwide = 2\n")
-        before = sorted(runtime.rglob("*"))
+        before = sorted(self.folder.rglob("*"))
         self.assertEqual(200, server.ask(DEAR).status)
         for worker in server.workers():
             os.kill(worker, signal.SIGKILL)
@@ -367,7 +368,7 @@ class Served(Case):
         server.process.send_signal(signal.SIGHUP)
         self.wait_for(lambda: server.workers() and not set(old) & set(server.workers()), "the workers are the old ones")
         self.assertEqual(200, server.ask(DEAR).status)
-        self.assertEqual(before, sorted(runtime.rglob("*")))
+        self.assertEqual(before, sorted(self.folder.rglob("*")))
 
     def test_a_request_that_waits_keeps_its_body(self) -> None:
         """Also if a part of it is sent later."""

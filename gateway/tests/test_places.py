@@ -13,11 +13,11 @@ from warcdx.faults import BadLine, OutOfOrder
 from . import model
 from .browse_support import PROGRAM, gateway_of
 from .model import Capture, Request, answer
-from .test_model import index_of, random_captures, random_request
+from .test_model import KEYS, index_of, random_captures, random_request
 from .support import LINE
 
 from warcdx_gateway.ranges import Lines, Range
-from warcdx_gateway.rules import RulesFile, rules_of
+from warcdx_gateway.rules import RulesFile
 from warcdx_gateway.settings import CollectionSettings, Settings
 
 REQUESTS = int(os.environ.get("GATEWAY_REQUESTS", "300"))
@@ -44,9 +44,9 @@ class Case(unittest.TestCase):
         each = CollectionSettings("main", "Main", tuple(paths))
         self.gateway = gateway_of(self, Settings((each,), "main", program=PROGRAM))
         if rules:
-            (self.folder / "rules").write_text(rules)
-            text = RulesFile(self.folder / "rules", PROGRAM, ["main"]).text
-            self.gateway.main.rules = rules_of(text, ["main"])["main"]
+            path = self.folder / "rules"
+            path.write_text(rules)
+            self.gateway.main.rules = RulesFile(path, PROGRAM, ["main"]).rules["main"]
         return Client(self.gateway)
 
     def ask(self, client: Client, query: str) -> str:
@@ -276,14 +276,17 @@ class Random(Case):
                 self.assertEqual(answer(request, captures), self.ask(client, query), query)
 
     def request(self, captures: list[Capture]) -> Request:
-        """Returns a request for a page, a number of pages, or the last captures."""
-        request, kind = random_request(self.chance, captures), self.chance.choice(("page", "count", "last", "reverse"))
+        """Returns a request for a page, a number of pages, the last captures, or those that are nearest to a time."""
+        request, kind = random_request(self.chance, captures), self.chance.choice(("page", "count", "last", "reverse", "closest"))
         none = {"after": None, "shows_key": False, "page": None, "counts_pages": False, "order": "forward"}
         request = request._replace(**none)  # type: ignore[arg-type]
         if kind == "page":
             return request._replace(page=self.chance.randint(0, 9))
         if kind == "count":
             return request._replace(counts_pages=True, counts=False)
+        if kind == "closest":
+            moment = str(self.chance.randint(2004, 2025)) + self.chance.choice(("", "06", "0615", "0615123000"))
+            request = request._replace(match="exact", target=self.chance.choice(KEYS), closest=moment)
         return request._replace(order=kind, limit=self.chance.choice((1, 2, 3, 10, 100)))
 
     def test_pages_joined_are_the_answer(self) -> None:

@@ -9,6 +9,8 @@ import unittest
 
 from .support import ALL_IN_ORDER, LINE, PROGRAM, SAMPLE, WAIT, Case, Server, connected, lines
 
+from warcdx_gateway.workers import SILENCE
+
 EXACT = "/cdx?url=example.com/0000007&fl=length"
 ALL = "/cdx?url=example.com/*"
 REVISITS = 2000
@@ -224,6 +226,23 @@ class Indexes(Case):
         ):
             for _ in range(5):
                 self.assertEqual((200, wanted), server.ask(ALL, **fields)[::2])
+
+    def test_a_request_that_comes_slowly_has_the_new_index(self) -> None:
+        """The worker that reads it has the old one, and gives it to another worker when it is read."""
+        self.put(lines(10))
+        server = self.start()
+        for rest in ("", "&collapse=digest"):
+            with connected(server) as client:
+                client.send(b"GET /cdx?url=exam")
+                time.sleep(0.3)
+                self.replace(lines(10, size=9 + len(rest)))
+                wanted = self.page("url=example.com/*")
+                self.wait_for(lambda: server.ask(ALL).body == wanted, "the index isn't seen")
+                time.sleep(SILENCE + 1)
+                client.send(f"ple.com/*{rest} HTTP/1.1\r\nHost: localhost\r\n\r\n".encode())
+                found = client.response()
+                self.assertEqual((200, wanted), (found.status, found.body))
+        self.wait_for(lambda: len(server.workers()) == 3, "old workers go on")
 
     def test_limits_of_the_settings_change_the_tag(self) -> None:
         self.put(lines(20))

@@ -18,7 +18,7 @@ from urllib.parse import quote_plus, urlsplit
 from werkzeug.test import Client, TestResponse
 
 from warcdx_gateway.application import Gateway
-from warcdx_gateway.rules import RulesFile, rules_of
+from warcdx_gateway.rules import RulesFile
 from warcdx_gateway.settings import CollectionSettings, Settings
 
 from .browse_support import PROGRAM, Archives, gateway_of, page, response, revisit
@@ -219,7 +219,7 @@ class Random(unittest.TestCase):
         path.write_text(rules)
         each = CollectionSettings("crawl", "A crawl", (index,), (self.archives.archives,))
         gateway = gateway_of(self, Settings((each,), "crawl", program=PROGRAM))
-        gateway.main.rules = rules_of(RulesFile(path, PROGRAM, ["crawl"]).text, ["crawl"])["crawl"]
+        gateway.main.rules = RulesFile(path, PROGRAM, ["crawl"]).rules["crawl"]
         return gateway
 
     def test_what_is_excluded_is_as_if_it_were_not_there(self) -> None:

@@ -109,7 +109,7 @@ class Served(Case):
         (self.folder / "runtime").mkdir()
         for number in (signal.SIGTERM, signal.SIGINT, signal.SIGQUIT):
             (self.folder / "begun").unlink(missing_ok=True)
-            with mock.patch.dict(os.environ, RUNTIME_DIRECTORY=str(self.folder / "runtime")):
+            with mock.patch.dict(os.environ, TMPDIR=str(self.folder / "runtime")):
                 process = self.run_later(str(settings))
             self.wait_for((self.folder / "begun").exists, "no check")
             process.send_signal(number)
@@ -246,10 +246,10 @@ class Unlisted(Shared):
         each = CollectionSettings("open", "Open", index), CollectionSettings("private", "Private", index, listed=False)
         gateway = gateway_of(self, Settings(each, "open", program=PROGRAM))
         for collection in gateway.collections.values():
-            collection.is_old = True
+            collection.is_old.set(True)
         old = "the old indexes are in use\n"
         self.assertEqual(f"ok\nopen: {old}a collection: {old}", Client(gateway).get("/health").text)
-        gateway.collections["private"].is_usable = False
+        gateway.collections["private"].is_usable.set(False)
         found = Client(gateway).get("/health")
         self.assertEqual((503, "a collection: "), (found.status_code, found.text.partition("refused")[0]))
 

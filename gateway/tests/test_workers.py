@@ -3,8 +3,6 @@ import contextlib
 import gc
 import os
 import pathlib
-import re
-import shutil
 import signal
 import socket
 import time
@@ -12,8 +10,9 @@ import types
 import unittest
 from unittest import mock
 
+from gunicorn.errors import HaltServer
 from warcdx_gateway import checking
-from warcdx_gateway.renewing import TICK, Openings
+from warcdx_gateway.renewing import TICK, Opening
 from warcdx_gateway.settings import CollectionSettings
 from warcdx_gateway.waiting import QUEUES
 from warcdx_gateway.workers import Master, Sign, Worker
@@ -85,32 +84,6 @@ class Workers(Case):
         self.wait_for(lambda: server.ask(EXACT).status == 200, "no worker is back")
         self.assertEqual(200, server.ask(f"{ALL}&limit=5").status)
 
-    def test_a_cleaner_of_old_files_ends_nothing(self) -> None:
-        """It may remove the folder in which the counts are."""
-        self.put(lines(20_000))
-        runtime = self.folder / "runtime"
-        runtime.mkdir()
-        with mock.patch.dict(os.environ, RUNTIME_DIRECTORY=str(runtime)):
-            server = self.start()
-        (folder,) = runtime.iterdir()
-        maps = [pathlib.Path(f"/proc/{each}/maps") for each in server.workers()]
-        kinds = {"counter", "gauge_max", "histogram"}
-        self.wait_for(
-            lambda: all(kinds <= set(re.findall("/([a-z_]+)_[0-9]+[.]db", each.read_text())) for each in maps), "workers have no files"
-        )
-        shutil.rmtree(folder)
-        for _ in range(3):
-            self.assertEqual(20_000, server.ask(ALL).body.count(b"\n"))
-            self.assertEqual(b"8\n", server.ask(EXACT).body)
-        self.wait_for(folder.exists, "the folder isn't made anew")
-        for worker in server.workers():
-            os.kill(worker, signal.SIGKILL)
-        self.wait_for(lambda: server.ask(EXACT).status == 200 and len(server.workers()) == 3, "no workers")
-        self.assertEqual(20_000, server.ask(ALL).body.count(b"\n"))
-        self.wait_for(lambda: server.metric("requests_total") > 0, "nothing is counted")
-        self.assertEqual(0, server.end())
-        self.assertEqual([], list(runtime.iterdir()))
-
     def test_memory_of_a_worker_is_limited(self) -> None:
         """An answer that takes more is refused, and the next one is answered."""
         text = "".join(LINE % ("a", 20160101000000 + n, "x" * 30_000, "-", "-", "-", 1, n, "a.warc") for n in range(15_000))
@@ -126,6 +99,29 @@ class Workers(Case):
 
 
 class Scarce(unittest.TestCase):
+    def test_workers_that_fail_after_a_change_replace_none(self) -> None:
+        """There is no memory for new ones, say. The others go on, one line says so, and one is tried from time to time."""
+        master, old = Master.__new__(Master), mock.Mock(state=1, age=1, is_told=False)
+        app = types.SimpleNamespace(state=1, look=lambda: False)
+        master.__dict__.update(WORKERS={1: old}, _num_workers=3, app=app, log=mock.Mock())
+        with mock.patch.multiple(Master, reap_workers=mock.DEFAULT, spawn_worker=mock.DEFAULT, kill_worker=mock.DEFAULT) as done:
+            with mock.patch("time.monotonic", return_value=1000.0) as clock:
+                old.tmp.has_begun, master.has_failed = False, True
+                with self.assertRaises(HaltServer):  # at the start
+                    master.manage_workers()
+                old.tmp.has_begun, app.state = True, 2
+                for seconds, started in ((0, 0), (1, 0), (10, 1), (0, 2)):
+                    clock.return_value += seconds
+                    master.manage_workers()
+                    self.assertEqual(started, done["spawn_worker"].call_count)
+                done["kill_worker"].assert_not_called()
+                master.WORKERS[2] = mock.Mock(state=2, age=2)  # which has begun
+                for _ in range(2):
+                    master.manage_workers()
+                self.assertEqual(6, done["spawn_worker"].call_count)
+            done["kill_worker"].assert_called_once_with(old.pid, signal.SIGTERM)
+        master.log.error.assert_called_once()
+
     def test_a_worker_that_can_not_be_started_is_tried_again(self) -> None:
         """The system may have no process or no memory for it now. One line says so, and no file stays open."""
         master = Master.__new__(Master)
@@ -166,11 +162,11 @@ class Clocks(Case):
         settings = CollectionSettings("main", "Main", (self.put(SAMPLE),))
         for first, then in ((0, -1), (1, 0), (-1, 0)):
             with self.at(first):
-                openings = Openings((settings,), PROGRAM, 1 << 29)
-            self.addCleanup(openings.close)
+                opening = Opening(settings, PROGRAM, 1 << 29, ())
+            self.addCleanup(opening.close)
             time.sleep(2 * TICK)
             with self.at(then), mock.patch.object(checking.Check, "is_done", return_value=True):
-                self.assertTrue(openings.advance())
+                self.assertTrue(opening.advance())
 
 
 class Ends(Case):

@@ -11,7 +11,7 @@ from .parameters import Form
 from .plan import BLOCK, LINE, Order, Plan
 from .refusal import Refusal
 from .rows import COUNT, DIGEST, WRITERS, Output, Row, array, resume_key
-from .selection import LEAST_PART, Selection, Stretch, backwards, sliced
+from .selection import LEAST_PART, Selection, Stretch, around, sliced
 from .settings import Limits
 
 PIECE = 1000  # captures of another order that are written at a time
@@ -51,24 +51,34 @@ class Answers:
             yield from plain(plan, selection)
         elif plan.order is Order.FORWARD and (plan.page or limit or not plan.counts_duplicates):
             yield from forward(plan, selection, plan.limit, stretch)
-        elif plan.order in (Order.LAST, Order.REVERSE):
-            yield from self._last(plan, source)
         else:
-            yield from ordered(plan, selection, chosen(plan, selection.timestamps(), held))
+            yield from self._ordered(plan, source)
 
-    def _last(self, plan: Plan, source: Source) -> Iterator[bytes]:
-        """Yields the last captures. As many lines are read from the end of the index on as have them for sure."""
+    def _ordered(self, plan: Plan, source: Source) -> Iterator[bytes]:
+        """Yields captures in another order, or whose duplicates are counted. No more lines are read than have them for sure."""
         held = self._limits.held
-        wanted = plan.limit or held + 1
-        found = range_of(plan.target, source) if plan.resume_key is None else None
-        parts = backwards(found, max(wanted * LINE, LEAST_PART)) if found is not None else iter(())
-        for part in itertools.chain(parts, (None,)):
-            stretch = None if part is None or part.is_whole else part
+        for stretch in itertools.chain(stretches(plan, source, held), (None,)):
             selection = Selection(plan, source, self._limits, plan.resume_key, stretch, is_apart=stretch is not None)
-            count = sum(map(len, selection.timestamps()))
-            if stretch is None or count >= wanted:
-                yield from ordered(plan, selection, last_numbers(plan, count, held))
+            numbers = (nearest if plan.order is Order.CLOSEST else last)(plan, selection.timestamps(), held, stretch)
+            if numbers is not None:
+                yield from ordered(plan, selection, numbers)
                 return
+
+
+def stretches(plan: Plan, source: Source, most: int) -> Iterator[Stretch]:
+    """Yields longer and longer parts of the index that may have all captures of an answer, but never the whole.
+
+    They are at its end, or around the time to which the captures are nearest.
+    """
+    is_closest = plan.order is Order.CLOSEST
+    if plan.resume_key is not None or plan.order is Order.FORWARD or is_closest and plan.limit is None:
+        return
+    if (found := range_of(plan.target, source)) is None:
+        return
+    moment = last_moment(plan.closest) if is_closest else ""
+    middle = found.at(found.last_place()[: -len(moment)] + moment.encode()) if is_closest else found.ends
+    size = max((plan.limit or most + 1) * LINE, LEAST_PART)
+    yield from itertools.takewhile(lambda each: not each.is_whole, around(found, middle, size))
 
 
 def page_count(plan: Plan, count: int) -> bytes:
@@ -147,33 +157,38 @@ def or_nothing(pieces: Iterator[bytes]) -> Iterator[bytes]:
     yield from pieces
 
 
-def chosen(plan: Plan, groups: Iterator[list[str]], most: int) -> Sequence[int]:
-    """Returns the numbers that the captures of an answer have in the index, in its own order.
+def nearest(plan: Plan, groups: Iterator[list[str]], most: int, stretch: Optional[Stretch]) -> Optional[Sequence[int]]:
+    """Returns the numbers of the captures that are nearest to a time, in the order of the answer.
 
-    `groups` are the timestamps of all captures. None of these is held yet.
+    `groups` are the timestamps of all captures, or of those in a stretch. None is returned if others may be as near.
     """
-    wanted, limit, count = seconds_of(last_moment(plan.closest or "0")), plan.limit, 0
+    wanted, count, limit = seconds_of(last_moment(plan.closest)), 0, plan.limit
     # The distance from the time, whether it is one from the time on, and the number.
-    nearest: list[tuple[int, bool, int]] = []
+    found, first = list[tuple[int, bool, int]](), 0
+    is_sure = stretch is None or stretch.is_last  # of those that follow
     for stamps in groups:
         if limit is None and count + len(stamps) > most:
-            raise too_many("closest" if plan.order is Order.CLOSEST else "showDupeCount", most)
-        if plan.order is Order.CLOSEST:
-            distances = enumerate((seconds_of(each) - wanted for each in stamps), count)
-            found = [(abs(distance), distance >= 0, number) for number, distance in distances]
-            nearest = sorted(nearest + found)[:limit]
-            if found and found[-1][1] and found[-1] > nearest[-1]:
-                break  # those that follow are still farther
+            raise too_many("closest", most)
+        distances = enumerate((seconds_of(each) - wanted for each in stamps), count)
+        new = [(abs(distance), distance >= 0, number) for number, distance in distances]
+        first = first if count or not new else new[0][0]
+        found = sorted(found + new)[:limit]
         count += len(stamps)
-    if plan.order is Order.CLOSEST:
-        return [number for _, _, number in nearest]
-    return range(count)
+        if new and new[-1][1] and new[-1] > found[-1]:
+            is_sure = True  # those that follow are still farther
+            break
+    if stretch is not None and stretch.starts != stretch.whole.starts:
+        is_sure = is_sure and bool(found) and found[-1][0] < first
+    return [number for _, _, number in found] if is_sure else None
 
 
-def last_numbers(plan: Plan, count: int, most: int) -> Sequence[int]:
-    """Returns the numbers of the last captures among some, in the order of the answer."""
+def last(plan: Plan, groups: Iterator[list[str]], most: int, stretch: Optional[Stretch]) -> Optional[Sequence[int]]:
+    """Returns the numbers of the last captures, or without a limit of all, or None if a stretch has too few."""
+    count = sum(map(len, groups))
     if plan.limit is None and count > most:
-        raise too_many("sort", most)
+        raise too_many("showDupeCount" if plan.order is Order.FORWARD else "sort", most)
+    if stretch is not None and count < (plan.limit or most + 1):
+        return None
     numbers = range(count)[-(plan.limit or count) :] if count else range(0)
     return numbers[::-1] if plan.order is Order.REVERSE else numbers
 

@@ -18,14 +18,13 @@ from warcdx import Error, Fault, Refused, ReplyTooLate, ReplyTooLong
 
 from .answers import Answers, or_nothing
 from .collection import Collection, Source
-from .parameters import Form, translated
+from .parameters import Form
 from .plan import Plan, plan_of
 from .refusal import TEXT, Refusal, http_response, program_refusal, say, text_of
 from .rows import Output
-from .rules import rules_of
-from .sending import Sent, streamed
+from .sending import sent, streamed
 from .settings import Settings, is_loopback
-from .shared import Board, Metrics
+from .shared import Metrics
 from .waiting import address_of
 from .work import MOST_FREE, Work
 
@@ -45,9 +44,6 @@ MOST_PARAMETERS = 1000  # of a query that isn't that of a captured URL
 TOO_LONG = RequestEntityTooLarge(f"a body has at most {MOST_BODY} bytes")
 MOST_PATHS = 64  # whose rules are remembered
 HEALTH_SECONDS = 5
-LOOKS = 0.25  # seconds between two looks at the words of the master
-TRIES = 4  # to have the files of the master, in a look
-AGAIN = 0.05  # seconds after which they are tried again
 
 Handler = Callable[..., Response]  # of the gateway, a request and the values of its path
 
@@ -87,18 +83,13 @@ class GatewayRequest(Request):
 class Gateway:
     """Answers requests from collections."""
 
-    def __init__(self, settings: Settings, collections: Mapping[str, Collection], metrics: Metrics, board: Board, rules: Board) -> None:
+    def __init__(self, settings: Settings, collections: Mapping[str, Collection], metrics: Metrics) -> None:
         self.settings = settings
         self.collections = collections
         self.main = collections[settings.main]
         self.listed = [each for each in collections.values() if each.settings.listed]
         self.main.is_alone = self.listed == [self.main]
         self.metrics = metrics
-        self._board = board
-        self._followed = b""
-        self._rules_board = rules
-        self._rules = b""
-        self._looked = 0.0
         self._answers = Answers(settings.limits)
         self.work = Work(settings.limits.wide)
         for each in collections.values():
@@ -117,37 +108,9 @@ class Gateway:
             raise NotFound("there is no such collection")
         return found
 
-    def look(self) -> None:
-        """Goes on with the files that the master has taken into use."""
-        now = time.monotonic()
-        if now - self._looked >= LOOKS:
-            self._look_again()
-            self._looked = now
-        for each in self.collections.values():
-            each.rules.begin()
-
-    def _look_again(self) -> None:
-        if (text := self._rules_board.read()) != self._rules:
-            for name, rules in rules_of(text, self.collections).items():
-                self.collections[name].rules = rules
-            self._rules = text
-        for _ in range(TRIES):  # while the master goes on to other files
-            if self._has_followed():
-                break
-            time.sleep(AGAIN)
-
-    def _has_followed(self) -> bool:
-        """Returns whether all collections have the files of the master."""
-        text = self._board.read()
-        if text != self._followed:
-            followed = [self.collections[name].follow(self._board.owner, state) for name, state in json.loads(text).items()]
-            self._followed = text if all(followed) else b""
-        return bool(self._followed) or not text
-
     def answer(self, request: GatewayRequest, collection: Collection, form: Form, query: Optional[str] = None) -> Response:
         """Answers a query, by default that of the request, in a form of its parameters."""
-        text = translated(request.query_text if query is None else query)
-        plan = plan_of(text, form, self.settings.limits, not collection.rules)
+        plan = plan_of(request.query_text if query is None else query, form, self.settings.limits, not collection.rules)
         source, headers = Source(collection), collection.validators()
         if is_unchanged(request, headers):
             for _ in source.pieces(plan.first_query):  # a query that is refused has no 304
@@ -181,7 +144,7 @@ class Gateway:
         response.headers.setdefault("Cache-Control", "no-cache")  # what may be shown changes
         if name and self.settings.origins:
             self._share(response, environ.get("HTTP_ORIGIN", ""))
-        return Sent(self.work, self.metrics, environ, start, response(environ, start_response))
+        return sent(self.work, self.metrics, environ, start, response(environ, start_response))
 
     def _answer(self, request: GatewayRequest) -> tuple[str, Response]:
         """Returns the name of the collection, if there is one, and what answers."""
@@ -192,7 +155,8 @@ class Gateway:
             if client is not None and client.is_for_metrics:
                 return "", show_metrics(self) if path == "/metrics" else http_response(NotFound())
             self._check_host(request)
-            self.look()
+            for each in self.collections.values():
+                each.rules.begin()
             if method == "OPTIONS" and self.settings.origins:
                 return self.settings.main, preflight(self._paths.allowed_methods(path))
             found, values = self._rule_of(path, method)
@@ -216,7 +180,7 @@ class Gateway:
     def failed(self, request: GatewayRequest, name: str, error: BaseException) -> Response:
         """Returns the plain response to a request that has met an error."""
         if isinstance(error, Refused):
-            error = program_refusal(error.name, request.args)
+            error = program_refusal(error, request.args)
         elif isinstance(error, ReplyTooLate):
             error = Refusal("TooSlow", "", "it takes too long; restrict the query", status=503)
         elif isinstance(error, (ReplyTooLong, MemoryError)):

@@ -4,22 +4,21 @@ import copy
 import hashlib
 import itertools
 import json
-import os
 import sys
 import time
 from collections.abc import Generator, Iterator, Sequence
 from email.utils import formatdate
-from typing import Any, Optional
+from typing import Optional
 
 from warcdx import FIELDS, Capture, Fault, Index, ReplyTooLate
 from warcdx.program import memory_file
-from warcdx.states import MOST_RUNS
 
-from .generation import Generation, Identity, names_of
+from .generation import Generation, name_of
 from .ranges import Lines, Range
 from .refusal import Refusal
 from .rules import ALL_SHOWN, Action, Rules
 from .settings import CollectionSettings, Settings
+from .shared import Flag
 from .work import UNBOUNDED, Work
 
 MOST_COPIED = 64 << 20  # bytes of lines in memory, usually a tenth of it
@@ -31,14 +30,11 @@ class Collection:
 
     `name`, `title` and `settings` are as given. `tag` changes with the files and with the
     settings that change answers. `modified` is when the files were changed or got their names, in
-    seconds since 1970. The master opens the indexes and has them checked, and each worker opens
-    those files itself.
+    seconds since 1970. The master opens the indexes and has them checked, and workers have these files from it.
 
     `rules` say what of it may be shown, and `is_alone` that it is the only one that is listed.
 
     `work` bounds what is read for the present request. `generation` is the files that are in use.
-    `is_old` says that other files have got the names and aren't in use, and `is_usable` is False if the files in use are
-    known not to be in order.
     """
 
     def __init__(self, each: CollectionSettings, settings: Settings, generation: Generation) -> None:
@@ -49,11 +45,8 @@ class Collection:
         self.work: Work = UNBOUNDED
         self.rules: Rules = ALL_SHOWN
         self.is_alone = False
-        self.is_old = False
-        self.is_usable = True
         self.limits = settings.limits
         self._index: Optional[Index] = None
-        self._owner = 0
         self._use(generation)
 
     @property
@@ -65,9 +58,8 @@ class Collection:
         """The index of this process over the files. Raises Refusal if they aren't usable."""
         if not self.is_usable:
             raise changed()
-        if self._index is None or self._owner != os.getpid():
+        if self._index is None:
             self._index = self.generation.index(self.program, self.limits.query)
-            self._owner = os.getpid()
         return self._index
 
     def expect_unchanged(self) -> None:
@@ -76,33 +68,9 @@ class Collection:
             raise changed()
 
     def take(self, generation: Generation) -> None:
-        """Goes on with other files, which were checked."""
+        """Goes on with other files, which were checked. Workers that have begun keep those of before."""
         self.close()
         self._use(generation)
-        self.is_usable = True
-
-    def state(self) -> list[Any]:
-        """Returns what a worker has to know of the files, as values of JSON."""
-        files = list(zip(self.generation.files, self.generation.stamp))
-        return [self.is_old, self.is_usable, files]
-
-    def follow(self, process: int, state: Sequence[Any]) -> bool:
-        """Goes on with the files of the master, a process, by its `state`.
-
-        Returns False if they can't be had now, because it has gone on to others, or they were
-        changed. Then the collection isn't usable: the files that it has may be much older ones.
-        """
-        self.is_old, is_usable, files = state
-        stamp = tuple(Identity(*identity) for _, identity in files)
-        if stamp != self.generation.stamp:
-            try:
-                names = names_of(process, [file for file, _ in files])
-                self.take(Generation(names, stamp))
-            except OSError:
-                self.is_usable = False
-                return False
-        self.is_usable = is_usable
-        return True
 
     def validators(self) -> dict[str, str]:
         """Returns the headers by which a client asks whether it has an answer already."""
@@ -141,13 +109,15 @@ class Collection:
 
     def close(self) -> None:
         """Ends the programs of this process, and closes the files."""
-        if self._index is not None and self._owner == os.getpid():
+        if self._index is not None:
             self._index.close()
         self._index = None
         self.generation.close()
 
     def _use(self, generation: Generation) -> None:
         self.generation = generation
+        self.is_old = Flag(False)  # whether other files have got the names and aren't in use
+        self.is_usable = Flag(True)  # False if the files in use are known not to be in order
         self._state = hashlib.sha256(repr((self.settings, generation.stamp, self.limits)).encode()).hexdigest()
         self.modified = max(max(times[-2:]) for times in generation.stamp) // 10**9
         self._date = formatdate(self.modified, usegmt=True)
@@ -161,20 +131,16 @@ class Source:
     """
 
     def __init__(self, collection: Collection) -> None:
-        self.rules = collection.rules
+        self.rules, self.program, self.work = collection.rules, collection.program, collection.work
+        self._collection = collection
         self._index = collection.index
-        self._expect_unchanged = collection.expect_unchanged
-        self._piece = collection.limits.query
-        self.program = collection.program
-        self._generation = collection.generation
         self._origins: list[tuple[int, int]] = []  # of a part: a file of the index, and its offset there
-        self.work = collection.work
 
     @property
     def files(self) -> list[Lines]:
         """The files of the index, which are those that were checked."""
-        sizes = (each.size for each in self._generation.stamp)
-        return [Lines(*each) for each in zip(itertools.count(), self._generation.files, sizes)]
+        generation = self._collection.generation
+        return [Lines(n, file, each.size) for n, (file, each) in enumerate(zip(generation.files, generation.stamp))]
 
     @contextlib.contextmanager
     def part(self, lines: Range) -> Iterator["Source"]:
@@ -192,10 +158,10 @@ class Source:
                 if start < end:
                     copied = stack.enter_context(memory_file()).fileno()
                     each.copy(copied, start, end)
-                    names += names_of(os.getpid(), [copied])
+                    names.append(name_of(copied))
                     origins.append((number, start))
                     self.work.go_on()
-            self._expect_unchanged()
+            self._collection.expect_unchanged()
             found = copy.copy(self)
             found._index = stack.enter_context(Index(names, program=self.program))
             found._origins = origins
@@ -203,7 +169,7 @@ class Source:
 
     def check(self) -> None:
         """Bounds the next piece of a reply. Raises what ends the work."""
-        self._index.seconds = self.work.seconds(self._piece)
+        self._index.seconds = self.work.seconds(self._collection.limits.query)
         self._index.waits = self.work.go_on  # so that a client that leaves is noticed
 
     def pieces(self, query: str) -> Iterator[bytes]:
@@ -211,11 +177,11 @@ class Source:
         self.check()
         try:
             for piece in self._index.stream(query):
-                self._expect_unchanged()
+                self._collection.expect_unchanged()
                 yield piece
                 self.check()
         except Fault as fault:
-            self._expect_unchanged()
+            self._collection.expect_unchanged()
             if self._origins and fault.number is not None and fault.offset is not None:
                 fault.number, start = self._origins[fault.number]
                 fault.offset += start
@@ -223,7 +189,7 @@ class Source:
         except ReplyTooLate:
             self.work.go_on()
             raise
-        self._expect_unchanged()
+        self._collection.expect_unchanged()
 
     def lines(self, query: str) -> Iterator[list[bytes]]:
         """Yields the lines of a page, each time those that a piece has ended."""
@@ -273,11 +239,6 @@ class Source:
         for lines in self.lines(f"{query}&output=json"):
             yield lines[names:]
             names = 0
-
-
-def most_state(each: CollectionSettings) -> int:
-    """Returns the most bytes of the state of a collection in JSON, with its name, also if each index becomes a folder."""
-    return 256 + 160 * MOST_RUNS * len(each.indexes)
 
 
 def changed() -> Refusal:

@@ -2,7 +2,7 @@
 import errno
 import os
 import stat
-from collections.abc import Iterable, Sequence
+from collections.abc import Iterable
 from typing import NamedTuple, Optional
 
 from warcdx import Index
@@ -34,20 +34,16 @@ Stamp = tuple[Identity, ...]
 class Generation:
     """Regular files that are open for reading, in the order of their paths.
 
-    `stamp` is what they were when they were opened first. The program opens them by their
-    descriptors. So a program that is started again reads the same files, also after others have
-    taken their names. The constructor raises OSError, also if the files aren't those of a `stamp`
-    that is given, or were changed.
+    `stamp` is what they were when they were opened. The program opens them by their descriptors. So a program that is
+    started again reads the same files, also after others have taken their names. The constructor raises OSError.
     """
 
-    def __init__(self, paths: Iterable["str | os.PathLike[str]"], stamp: Optional[Stamp] = None) -> None:
+    def __init__(self, paths: Iterable["str | os.PathLike[str]"]) -> None:
         self.files: list[int] = []
         try:
             for path in paths:
                 self.files.append(open_regular(path))
-            self.stamp = stamp_of(map(os.fstat, self.files)) if stamp is None else stamp
-            if not self.is_unchanged:
-                raise OSError(errno.ESTALE, os.strerror(errno.ESTALE))
+            self.stamp = stamp_of(map(os.fstat, self.files))
         except BaseException:
             self.close()
             raise
@@ -58,7 +54,7 @@ class Generation:
     @property
     def names(self) -> list[str]:
         """The paths by which the programs of this process open the files."""
-        return names_of(os.getpid(), self.files)
+        return list(map(name_of, self.files))
 
     @property
     def is_unchanged(self) -> bool:
@@ -83,9 +79,9 @@ def open_regular(path: "str | os.PathLike[str]") -> int:
     return file
 
 
-def names_of(process: int, files: Sequence[int]) -> list[str]:
-    """Returns paths of the files that a process has open, by their descriptors."""
-    return [f"/proc/{process}/fd/{file}" for file in files]
+def name_of(file: int) -> str:
+    """Returns the path by which the programs of this process open a file that it has open."""
+    return f"/proc/{os.getpid()}/fd/{file}"
 
 
 def stamp_of(found: Iterable[os.stat_result]) -> Stamp:

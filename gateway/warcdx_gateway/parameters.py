@@ -41,15 +41,17 @@ SINGLE = {
     "closest": STAMP,
     "sort": (SORTS, "BadSort", "it is one of default, regular, reverse, closest"),
     "offset": (NUMBER, "BadPage", "it is a number of at most 7 digits"),
+    "showPagedIndex": ("false", "Unknown", "the indexes of this server have no blocks"),
     **dict.fromkeys(FLAGS, ("true|false", "BadFlag", "it is true or false")),
 }
 KNOWN = frozenset((*TESTS, *SINGLE, "filter", "collapse"))
 EMPTY = frozenset(("url", "key", *TESTS))  # which mean something without a value
-CLIENT_FLAGS = frozenset((*FLAGS, "omitSelfRedirects", "showPagedIndex"))
+CLIENT_FLAGS = frozenset((*FLAGS, "showPagedIndex"))
+# What clients write for other words, or for nothing.
+WORDS = {("output", "txt"): "text", ("limit", "0"): "", ("page", "/"): ""}
 # Parameters that change no answer here: a number against caches, the name of a function of a page's
 # script, and what depends on columns that indexes in CDXJ don't have.
 IGNORED = frozenset(("_", "callback", "omitSelfRedirects"))
-TRANSLATED = CLIENT_FLAGS | IGNORED | frozenset("closest collapseTime limit output page resumeKey sort".split())
 PLACE = re.compile(r"(?=.+?(?:\+|%20))[A-Za-z0-9*._%+-]+")  # a resume key, encoded
 ESCAPED = re.compile("[%+]")
 CHECKS = {name: re.compile(pattern, re.DOTALL) for name, (pattern, _, _) in SINGLE.items()}
@@ -128,16 +130,27 @@ class Given:
         self.pieces: dict[str, str] = {}
         self.conditions: list[tuple[Condition, str]] = []
         self.collapses: list[Collapse] = []
+        self.empty: set[str] = set()  # names without a value
 
     def add(self, piece: str) -> None:
-        """Takes the next parameter. Raises Refusal."""
+        """Takes the next parameter, also in the words of other servers' clients. Raises Refusal."""
         name, value = unquoted(*piece.partition("=")[::2])
         if name == "fields" and self.form is Form.PYWB:
             name = "fl"
+        elif name == "collapseTime":
+            name, value = "collapse", f"timestamp:{value}"
+        elif name == "resumeKey" and PLACE.fullmatch(value):
+            return self.add(f"resumeKey={value}")  # it was encoded once more than it is written
+        elif name in CLIENT_FLAGS and value in ("True", "False"):
+            value = value.lower()
+        value = present_moment() if (name, value) == ("closest", "now") else WORDS.get((name, value), value)
+        if name in IGNORED:
+            return
         if name not in KNOWN:
             raise Refusal("Unknown", name, "there is no such parameter; a & in a URL is written as %26")
         if not value and name not in EMPTY:
-            return  # an empty field of a form
+            self.empty.add(name)  # a field of a form
+            return
         if name in SINGLE:
             self.add_single(name, value, piece)
         elif name == "collapse":
@@ -189,33 +202,3 @@ class Given:
         if url.startswith("*."):
             return "domain", url[2:]
         return ("prefix", url[:-1]) if url.endswith("*") else ("exact", url)
-
-
-def translated(query: str) -> str:
-    """Returns a query of a client in the words of the gateway. What it doesn't know stays."""
-    pieces = []
-    pairs = [(piece, *unquoted(*piece.partition("=")[::2])) for piece in query.split("&")]
-    if TRANSLATED.isdisjoint([name for _, name, _ in pairs]):
-        return query
-    has_time = all(value for _, name, value in pairs if name == "closest")
-    for piece, name, value in pairs:
-        if name in CLIENT_FLAGS and value in ("True", "False"):
-            piece, value = f"{name}={value.lower()}", value.lower()
-        if name == "closest" and value == "now":
-            piece = f"closest={present_moment()}"
-        elif name == "resumeKey" and PLACE.fullmatch(value):
-            piece = f"resumeKey={value}"  # it was encoded once more than it is written
-        elif name == "output" and value == "txt":
-            piece = "output=text"
-        elif name == "collapseTime":
-            piece = f"collapse=timestamp:{quote_plus(value)}"
-        elif name == "showPagedIndex" and value == "true":
-            raise Refusal("Unknown", name, "the indexes of this server have no blocks", value)
-        is_dropped = (
-            name in IGNORED
-            or (name, value) in (("limit", "0"), ("page", "/"), ("showPagedIndex", "false"))
-            or (name, value, has_time) == ("sort", "closest", False)
-        )
-        if not is_dropped:
-            pieces.append(piece)
-    return "&".join(pieces)

@@ -233,7 +233,7 @@ def sort_of(given: Given) -> Order:
     values, sort = given.values, given.values.get("sort", "default")
     if given.is_true("reverse"):
         sort = "reverse"
-    if sort == "closest" and "closest" not in values:
+    if sort == "closest" and "closest" not in values and "closest" not in given.empty:
         raise Refusal("BadSort", "closest", "sort=closest needs it")
     if "closest" in values and sort != "reverse":
         if given.match()[0] != "exact":

@@ -5,6 +5,7 @@ have a *position* each, the start of a line: for all of them it is one list, in 
 """
 import os
 from collections.abc import Iterator, Sequence
+from dataclasses import dataclass
 from typing import Optional
 
 from warcdx.faults import BadLine, OutOfOrder
@@ -17,6 +18,7 @@ STAMP = 15  # bytes of a timestamp and the blank before it
 Positions = list[int]
 
 
+@dataclass(frozen=True)
 class Lines:
     """The lines of an open file, the one with this number in the index. They are in order, as was checked.
 
@@ -24,10 +26,9 @@ class Lines:
     files that aren't in order, and none for some of them: it reads few lines.
     """
 
-    def __init__(self, number: int, file: int, size: int) -> None:
-        self._number = number
-        self._file = file
-        self.size = size
+    number: int
+    file: int
+    size: int
 
     def from_offset(self, offset: int) -> tuple[int, bytes]:
         """Returns the start of the first line that begins at an offset or after it, and its place.
@@ -94,15 +95,15 @@ class Lines:
         return read, found
 
     def _read(self, at: int, size: int) -> bytes:
-        return os.pread(self._file, min(size, self.size - at), at)
+        return os.pread(self.file, min(size, self.size - at), at)
 
     def _fault(self, kind: "type[BadLine | OutOfOrder]", offset: int) -> "BadLine | OutOfOrder":
-        return kind(kind.__name__, None, offset, self._number)
+        return kind(kind.__name__, None, offset, self.number)
 
     def copy(self, to: int, start: int, end: int) -> None:
         """Writes the bytes between two positions to another file."""
         while start < end:
-            sent = os.sendfile(to, self._file, start, end - start)
+            sent = os.sendfile(to, self.file, start, end - start)
             if not sent:
                 raise self._fault(BadLine, start)  # it has become shorter
             start += sent

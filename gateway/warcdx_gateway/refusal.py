@@ -5,19 +5,19 @@ from dataclasses import dataclass
 from werkzeug.exceptions import HTTPException, MethodNotAllowed, NotFound
 from werkzeug.wrappers import Response
 
-from warcdx import Error, Fault, command
+from warcdx import Error, Fault, Refused, command
 
 NAME = "warcdx-gateway"
 TEXT = "text/plain; charset=utf-8"
 MOST_SHOWN = 100  # characters of a value
 
-# What the program refuses and the gateway doesn't: the parameters, and what they have to be.
-CAUSES: dict[str, tuple[tuple[str, ...], str]] = {
-    "QueryTooLong": ((), "a query has at most 65,536 bytes"),
-    "BadResume": (("resumeKey",), "it isn't the resume key of a page"),
-    "NoUrl": (("url",), "it is missing"),
-    "UrlAndKey": (("url", "key"), "only one of both may be given"),
-    "BadUrl": (("url",), "it isn't an address, or none of a web page where it has to be"),
+# What the program refuses and the gateway doesn't, in words.
+CAUSES = {
+    "QueryTooLong": "a query has at most 65,536 bytes",
+    "BadResume": "it isn't the resume key of a page",
+    "NoUrl": "it is missing",
+    "UrlAndKey": "only one of both may be given",
+    "BadUrl": "it isn't an address, or none of a web page where it has to be",
 }
 
 
@@ -53,12 +53,10 @@ def without_controls(text: str) -> str:
     return "".join(each if each.isprintable() else f"%{ord(each):02X}" for each in text)
 
 
-def program_refusal(name: str, given: Mapping[str, str]) -> Refusal:
+def program_refusal(error: Refused, given: Mapping[str, str]) -> Refusal:
     """Returns what the program has refused of the parameters that were given."""
-    names, cause = CAUSES.get(name, ((), "the program refuses it"))
-    usual = names[0] if names else ""
-    parameter = next((each for each in given if each in names), usual)
-    return Refusal(name, parameter, cause, given.get(parameter, ""))
+    parameter = error.parameter or ("url" if error.name in ("NoUrl", "UrlAndKey") else "")
+    return Refusal(error.name, parameter, CAUSES.get(error.name, "the program refuses it"), given.get(parameter, ""))
 
 
 def http_response(error: HTTPException) -> Response:

@@ -4,23 +4,21 @@ import datetime
 import enum
 import functools
 import hashlib
-import json
 import os
 import pathlib
 import re
 import time
-from collections.abc import Collection as Container
 from collections.abc import Iterable, Sequence
 from typing import Any, NamedTuple, Optional
 
 from warcdx.url_keys import host_of, keys_of
 
+from .generation import Identity
 from .refusal import say
 from .rows import DIGEST, KEY, STAMP
 from .settings import BadSettings, named, tables_of
 
-MOST = 16 << 20  # bytes of the rules as the workers get them, each of which needs some fifteen times as many
-NONE = b"[]"  # the text of no rules
+MOST = 300_000  # rules
 ACTIONS = {"metadata": 1, "exclude": 2}
 STARLESS = ("url", "prefix", "host", "domain")  # in which a star, as of a query, would be a character like any other
 TARGETS = (*STARLESS, "key")
@@ -31,7 +29,8 @@ _OTHER_SCHEMES = re.compile(r"(?:[a-z][a-z0-9+.-]*:)+//", re.IGNORECASE)  # as o
 SETTLED = 2.0  # seconds for which a file has stayed as it is before it is read again
 AGAIN = 60.0  # seconds until a file is read again that couldn't be read, as for want of memory
 _STAMP = re.compile("[0-9]{1,14}")
-_DIGEST = re.compile("[!-~]+")
+# Of MD5, SHA-1, SHA-256 or SHA-512 in base 32 or 16, or of any algorithm with its name.
+_DIGEST = re.compile("(?:[A-Z2-7]{26}|[A-Z2-7]{32}|[A-Z2-7]{52}|[A-Z2-7]{103})=*|(?:[0-9A-F]{32}){1,4}|[A-Z][A-Z0-9-]*:[!-~]+")
 _HEX_OF_SHA1 = re.compile("[0-9A-F]{40}")
 # How the key of a web URL begins.
 _OF_WEB = re.compile(r"(?:\[[^]/)]*\]|[^][/:)]+)(?::[0-9]+)?\)")
@@ -78,24 +77,28 @@ class Rules:
     """The rules of one collection. `tag` changes with what they show. For one request it is one day."""
 
     def __init__(self, rules: Iterable[Rule] = ()) -> None:
-        self._exact: dict[str, list[Rule]] = {}
-        self._fronts: dict[str, list[Rule]] = {}
-        self._digests: dict[str, list[Rule]] = {}
+        self._exact: dict[str, tuple[Rule, ...]] = {}
+        self._fronts: dict[str, tuple[Rule, ...]] = {}
+        self._digests: dict[str, tuple[Rule, ...]] = {}
         self._others: list[Rule] = []
-        self._all = list(rules)
-        for rule in self._all:
+        hashed, kinds = hashlib.sha256(), dict[Rule, tuple[Rule]]()  # many rules differ in their keys alone
+        for rule in rules:
+            hashed.update(repr(rule).encode())
+            kind = rule._replace(keys=())
+            same = kinds.setdefault(kind, (kind,))
             keyed = self._fronts if rule.is_front else self._exact
             for key in rule.keys:
-                keyed.setdefault(key, []).append(rule)
+                keyed[key] = keyed.get(key, ()) + same
             if not rule.keys and rule.digest:
-                self._digests.setdefault(rule.digest, []).append(rule)
+                self._digests[rule.digest] = self._digests.get(rule.digest, ()) + same
             elif not rule.keys:
-                self._others.append(rule)
+                self._others += same
         self._lengths = sorted(set(map(len, self._fronts)))
         self._of_key = functools.lru_cache(256)(self._find)
-        self._digest = hashlib.sha256(repr(self._all).encode()).hexdigest()
-        self._has_embargo = any(rule.embargo for rule in self._all)
-        self._has_digest = any(rule.digest for rule in self._all)
+        self._digest = hashed.hexdigest()
+        self._is_empty = not kinds
+        self._has_embargo = any(rule.embargo for rule in kinds)
+        self._has_digest = any(rule.digest for rule in kinds)
         self._day = today()
 
     def begin(self) -> None:
@@ -104,7 +107,7 @@ class Rules:
             self._day = today()
 
     def __bool__(self) -> bool:
-        return bool(self._all)
+        return not self._is_empty
 
     @property
     def tag(self) -> str:
@@ -123,7 +126,7 @@ class Rules:
 
     def shown(self, rows: list[list[str]], most: Action = Action.METADATA) -> list[list[str]]:
         """Returns the rows, of all fields of the program, for which nothing more than `most` is ruled."""
-        if not self._all:
+        if self._is_empty:
             return rows
         return [row for row in rows if self.action(row[KEY], row[STAMP], row[DIGEST]) <= most]
 
@@ -136,91 +139,88 @@ class Rules:
 
 
 class RulesFile:
-    """The file of rules, which is read again when it has changed. Without a path there are no rules.
+    """The file of rules of collections, which is read again when it has changed. Without a path there are no rules.
 
-    `text` is the last rules that could be read, as `rules_of` takes them. The constructor raises
-    BadSettings if the file can't be read: nothing is shown that it may close. It may come after `before`.
+    `rules` are those of each collection that could be read last. The constructor raises BadSettings if the file can't be
+    read: nothing is shown that it may close. It may come after another one, of settings that were in use `before`.
     """
 
     def __init__(
-        self, path: Optional[pathlib.Path], program: str, collections: Container[str], before: "Optional[RulesFile]" = None
+        self, path: Optional[pathlib.Path], program: str, collections: Sequence[str], before: "Optional[RulesFile]" = None
     ) -> None:
+        self.source = path, program, collections
         self._path = path
-        self._program = program
-        self._collections = collections
+        self._has_rules: bool = before is not None and before._has_rules
         self._seen = self._read_at = self._identity()
-        is_known = before is None or self._read_at == before._read_at
-        self._since = -SETTLED if is_known else time.monotonic()  # when it was first seen as it is
+        self._since = -SETTLED if before is None else time.monotonic()  # when it was first seen as it is
         self._told = ""  # why the old rules stay in use
-        self.text: bytes = NONE if before is None else before.text
-        self.text = NONE if path is None else self._read(path)
-
-    @property
-    def has_changed(self) -> bool:
-        """Whether the file is another one than the constructor has read."""
-        return self._identity() != self._read_at
+        self.rules = dict[str, Rules]() if path is None else self._read(path)
 
     @property
     def has_settled(self) -> bool:
         """Whether nobody has written to the file for some time. Until then it may be a part of one that is being saved."""
         return self._path is None or time.monotonic() - self._since >= SETTLED
 
-    def look(self) -> None:
-        """Reads the file again if it has changed, and nobody writes to it. One that can't be read changes no rules."""
+    def look(self) -> bool:
+        """Reads the file again if it has changed, and nobody writes to it. Returns whether there are other rules now.
+
+        One that can't be read changes no rules.
+        """
         if self._path is None:
-            return
+            return False
         found, now = self._identity(), time.monotonic()
         if found != self._seen:
             self._seen, self._since = found, now
-        if found == self._read_at or now - self._since < SETTLED:
-            return
+        if found == self._read_at or not self.has_settled:
+            return False
         self._read_at = found
         try:
-            text = self._read(self._path)
-            if self._identity() != found:
-                return  # it is another one by now
-            self.text, self._told = text, ""
-            say(f"{self._path}: the rules were read again")
+            rules = self._read(self._path)
         except BadSettings as error:
             self._read_at, self._since = (), now + AGAIN
             if str(error) != self._told:
                 self._told = str(error)
                 say(f"the old rules stay in use: {error}")
+            return False
+        if self._identity() != found:
+            return False  # it is another one by now
+        self.rules, self._told = rules, ""
+        say(f"{self._path}: the rules were read again")
+        return True
 
     def _identity(self) -> tuple[int, ...]:
-        if self._path is None:
-            return ()
         try:
-            found = os.stat(self._path)
+            return () if self._path is None else Identity.of(os.stat(self._path))
         except OSError as error:
             return (error.errno or 0,)
-        return found.st_dev, found.st_ino, found.st_size, found.st_mtime_ns, found.st_ctime_ns
 
-    def _read(self, path: pathlib.Path) -> bytes:
+    def _read(self, path: pathlib.Path) -> dict[str, Rules]:
+        _, program, collections = self.source
         with named(path):
             tables = tables_of(path)
-            if not tables and self.text != NONE:  # as where a full disk has cut it
+            if not tables and self._has_rules:  # as where a full disk has cut it
                 raise BadSettings("it is empty: rules = [] says that there are none")
-            return text_of(tables, self._program, self._collections)
+            rules = rules_in(tables, program, collections)
+            found = rules_of(rules, collections)
+        self._has_rules = bool(rules)
+        return found
 
 
-def text_of(tables: dict[str, Any], program: str, collections: Container[str]) -> bytes:
+def rules_in(tables: dict[str, Any], program: str, collections: Sequence[str]) -> list[Rule]:
     """Returns the rules of a file with the URL keys that the program gives. Raises BadSettings, or Error."""
     unknown = set(tables) - {"rules"}
     given = tables.get("rules", [])
     if unknown or not isinstance(given, list) or not all(isinstance(each, dict) for each in given):
         raise BadSettings("it has [[rules]] and nothing else")
+    if len(given) > MOST:
+        raise BadSettings(f"it has more than {MOST} rules")
     for number, table in enumerate(given, 1):
         check(number, table, collections)
     keys = keys_by_url(program, [url for table in given for url in urls_of(table)])
-    rules = [rule_of(table, keys) for table in given]
-    text = json.dumps(rules, ensure_ascii=False).encode()
-    if len(text) > MOST:
-        raise BadSettings(f"the rules have more than {MOST} bytes")
-    return text
+    return [rule_of(table, keys) for table in given]
 
 
-def check(number: int, table: dict[str, Any], collections: Container[str]) -> None:
+def check(number: int, table: dict[str, Any], collections: Sequence[str]) -> None:
     """Raises BadSettings if a rule isn't one."""
 
     def expect(holds: bool, what: str) -> None:
@@ -242,7 +242,10 @@ def check(number: int, table: dict[str, Any], collections: Container[str]) -> No
         expect(bool(_STAMP.fullmatch(table.get(name, "0"))), f"'{name}' has to be 1 to 14 digits")
     first, last = table.get("from", "0"), table.get("to", "9")
     expect(first[: len(last)] <= last[: len(first)], "'from' is after 'to'")
-    expect(bool(_DIGEST.fullmatch(plain_digest(table.get("digest", "0")))), "'digest' can't be one")
+    is_digest = "digest" not in table or bool(_DIGEST.fullmatch(plain_digest(table["digest"])))
+    expect(is_digest, "'digest' can't be one: it is in base 32 or 16, or has the name of its algorithm before it, as sha1:")
+    key = table.get("key", "")
+    expect(not key.lower().startswith(WEB) and " " not in key, "'key' is a URL key such as com,example)/a, and has no blank")
     expect(table.get("collection", "") in ("", *collections), f"there is no collection '{table.get('collection')}'")
     expect(len(table) > 1, f"it names nothing: it needs one of {', '.join(NAMES[1:])}")
     expect(sum(name in table for name in TARGETS) < 2, f"it has more than one of {', '.join(TARGETS)}")
@@ -306,9 +309,8 @@ def keys_by_url(program: str, urls: Sequence[str]) -> dict[str, str]:
     return keys
 
 
-def rules_of(text: bytes, collections: Iterable[str]) -> dict[str, Rules]:
+def rules_of(rules: Sequence[Rule], collections: Iterable[str]) -> dict[str, Rules]:
     """Returns the rules of collections. Those without rules of their own have the same ones, as there may be many."""
-    rules = [Rule(*each) for each in json.loads(text or b"[]")]
     shared, named = Rules(rule for rule in rules if not rule.collection), {rule.collection for rule in rules}
     own = {name: Rules(rule for rule in rules if rule.collection in ("", name)) for name in collections if name in named}
     return {name: own.get(name, shared) for name in collections}

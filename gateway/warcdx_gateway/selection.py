@@ -13,7 +13,23 @@ from .conditions import Conditions
 from .history import LAST_PLACE
 from .plan import Plan, with_key
 from .ranges import Positions, Range
-from .rows import DIGEST, KEY, MIME, PLACES, STAMP, STATUS, UNKNOWN_PART, Collapser, Grouper, Output, Part, Row, row_of_line, row_of_values
+from .rows import (
+    DIGEST,
+    KEY,
+    MIME,
+    PLACES,
+    STAMP,
+    STATUS,
+    UNKNOWN_PART,
+    Collapser,
+    Grouper,
+    Output,
+    Part,
+    Row,
+    resume_key,
+    row_of_line,
+    row_of_values,
+)
 from .settings import Limits
 
 ORIGINAL = ("digest", "mimetype", "statuscode", "length", "offset", "filename")
@@ -43,12 +59,13 @@ class Stretch(NamedTuple):
         return self.ends == self.whole.ends
 
 
-def backwards(lines: Range, size: int = LEAST_PART) -> Iterator[Stretch]:
-    """Yields longer and longer ends of a range, the last of which is the whole of it."""
+def around(lines: Range, middle: Positions, size: int = LEAST_PART) -> Iterator[Stretch]:
+    """Yields longer and longer stretches of a range on both sides of a position, the last of which is the whole of it."""
+    before, after = lines.between(lines.starts, middle), lines.between(middle, lines.ends)
     while True:
-        starts = lines.after(lines.size - size)
-        yield Stretch(lines, starts, lines.ends)
-        if starts == lines.starts:
+        found = Stretch(lines, before.after(before.size - size), after.after(size))
+        yield found
+        if found.is_whole:
             return
         size *= GROWTH
 
@@ -160,7 +177,8 @@ class Selection:
         if self._is_apart:
             return [UNKNOWN_PART] * len(collapses)
         if self._stretch is not None and collapses:
-            for stretch in backwards(self._before_it(self._stretch.starts)):
+            before = self._before_it(self._stretch.starts)
+            for stretch in around(before, before.ends):
                 is_whole = stretch.starts == stretch.whole.starts
                 begun = Collapser(collapses, [None if is_whole else UNKNOWN_PART] * len(collapses))
                 for rows in self._passed(self._of(stretch).sources()):
@@ -171,7 +189,7 @@ class Selection:
 
     def _key_before(self, starts: Positions) -> Optional[str]:
         """Returns the resume key of the last capture before a position, for the program's collapse."""
-        for stretch in backwards(self._before_it(starts)):
+        for stretch in around(self._before_it(starts), starts):
             last = b""
             for part in stretch.parts():
                 with self._source.part(part) as source:
@@ -191,12 +209,16 @@ class Selection:
         if len(place) < 3:
             return None
         name, _, offset = place[2].rpartition(" ")
+        row = row_of_values([*place[:2], *"-----", offset, name])
         if self._plan.collapses_places:
-            return row_of_values([*place[:2], *"-----", offset, name])
-        conditions = f"is={quote_plus('filename:' + name)}&is={quote_plus('offset:' + offset)}"
-        query = f"key={quote_plus(place[0])}&from={place[1]}&to={place[1]}&{conditions}"
-        found = [row for rows in self._source.values(query, limit=1) for row in rows]
-        return row_of_values(found[0]) if found else None
+            return row
+        # A resume key is searched for, while all captures before `from` are read. But it has no offset below 0.
+        query = f"from={place[1]}&to={place[1]}&is={quote_plus('filename:' + name)}&is=offset:0"
+        if int(offset):
+            query = "resumeKey=" + quote_plus(" ".join((*place[:2], name, str(int(offset) - 1))))
+        groups = self._source.values(f"key={quote_plus(place[0])}&{query}", limit=1)
+        found = next((row_of_values(values) for group in groups for values in group), None)
+        return found if found and resume_key(found) == resume_key(row) else None
 
 
 class Resolver:

@@ -4,8 +4,7 @@ import itertools
 import socket
 import struct
 import time
-from collections.abc import Generator, Iterable, Iterator
-from dataclasses import dataclass
+from collections.abc import Generator, Iterable
 from wsgiref.types import WSGIEnvironment
 
 from werkzeug.wrappers import Response
@@ -15,63 +14,51 @@ from .shared import Metrics
 from .work import MOST_FREE, Work
 
 
-@dataclass(eq=False)
-class Sent:
-    """An answer as gunicorn sends it. One that fails is broken off, so that it is seen."""
-
-    work: Work
-    metrics: Metrics
-    environ: WSGIEnvironment
-    start: float
-    pieces: Iterable[bytes]
-    is_whole: bool = False
-
-    def __iter__(self) -> Iterator[bytes]:
-        try:
-            for piece in self.pieces:
-                self.work.beat()
-                self.metrics.bytes.inc(len(piece))
-                yield piece
-            self.is_whole = True
-        except (ConnectionError, GeneratorExit):
-            raise  # the client has left
-        except BaseException as error:
-            self.is_whole = True  # it is counted here
-            self._break(error)
-            if not isinstance(error, Exception):
-                raise
-            # gunicorn closes the connection then, and says nothing.
-            raise BrokenPipeError(errno.EPIPE, "an answer was broken off") from None
-
-    def close(self) -> None:
-        if not self.is_whole:
-            self.metrics.broken.labels("client left").inc()
-        close = getattr(self.pieces, "close", None)
-        if close is not None:
-            close()
-        self.metrics.seconds.observe(time.monotonic() - self.start)
-
-    def _break(self, error: BaseException) -> None:
-        self.metrics.broken.labels(type(error).__name__).inc()
+def sent(work: Work, metrics: Metrics, environ: WSGIEnvironment, start: float, pieces: Iterable[bytes]) -> Generator[bytes, None, None]:
+    """Yields an answer as gunicorn sends it. One that fails is broken off, so that it is seen."""
+    cause = "client left"
+    try:
+        for piece in pieces:
+            work.beat()
+            metrics.bytes.inc(len(piece))
+            yield piece
+        cause = ""
+    except (ConnectionError, GeneratorExit):
+        raise  # the client has left
+    except BaseException as error:
+        cause = type(error).__name__
         say(f"an answer was broken off: {text_of(error)}")
-        found = self.environ.get("gunicorn.socket")
-        if found is not None and self.environ.get("SERVER_PROTOCOL") == "HTTP/1.0":
+        found = environ.get("gunicorn.socket")
+        if found is not None and environ.get("SERVER_PROTOCOL") == "HTTP/1.0":
             # Without chunks, the end of the connection would be that of the answer.
             found.setsockopt(socket.SOL_SOCKET, socket.SO_LINGER, struct.pack("ii", 1, 0))
+        if not isinstance(error, Exception):
+            raise
+        # gunicorn closes the connection then, and says nothing.
+        raise BrokenPipeError(errno.EPIPE, "an answer was broken off") from None
+    finally:
+        if cause:
+            metrics.broken.labels(cause).inc()
+        close = getattr(pieces, "close", None)
+        if close is not None:
+            close()
+        metrics.seconds.observe(time.monotonic() - start)
 
 
-def streamed(pieces: Generator[bytes, None, None], headers: list[tuple[str, str]], work: Work, status: int = 200) -> Response:
+def streamed(
+    pieces: Generator[bytes, None, None], headers: list[tuple[str, str]], work: Work, status: int = 200, most: int = MOST_FREE
+) -> Response:
     """Returns an answer whose pieces are made when they are sent.
 
-    The first ones are made at once. So what fails until then has a status, and a short answer has
-    a length.
+    The first ones are made at once. So what fails until then has a status, and an answer of at most `most` bytes has a
+    length.
     """
     begun, size = list[bytes](), 0
     for piece in pieces:
         begun.append(piece)
         size += len(piece)
-        if size > MOST_FREE:
-            work.expect_slot()
+        work.expect_slot(size)
+        if size > most:
             response = Response(itertools.chain(begun, pieces), status, headers)
             response.call_on_close(pieces.close)
             return response

@@ -1,15 +1,12 @@
 """The server: gunicorn runs the application in processes of limits of their own."""
 import contextlib
 import gc
-import json
 import logging
 import os
 import pathlib
-import shutil
 import signal
-import tempfile
 from collections.abc import Callable, Container, Sequence
-from typing import Any, Optional
+from typing import Optional
 
 import gunicorn.http.message
 import gunicorn.http.wsgi
@@ -21,15 +18,14 @@ from warcdx import Error, command
 
 from .application import Gateway
 from .children import end_with_parent, limit_memory
-from .collection import Collection, most_state
+from .collection import Collection
 from .generation import Identity
 from .listening import allow_files, bound, naming, shown_address
 from .refusal import NAME, say
-from .renewing import AT_A_TIME, Openings, Renewal
-from .rules import MOST as MOST_RULES
+from .renewing import DONE, Opening, Renewal, are_checked, close, openings_of, wait
 from .rules import RulesFile
 from .settings import BadSettings, Settings
-from .shared import Beat, Board, Metrics
+from .shared import Metrics
 from .waiting import Costs, Shares, Waiting
 from .workers import LATER, Log, Master, Sign, Worker
 
@@ -39,22 +35,28 @@ MOST_LINE = 70_000  # bytes of the line of a request: a query has at most 65,536
 
 
 class Server(BaseApplication):
-    """Runs workers until a signal. `read` returns the settings anew, after SIGHUP."""
+    """Runs workers until a signal. `read` returns the settings anew, after SIGHUP.
 
-    def __init__(self, settings: Settings, read: Callable[[], Settings], folder: pathlib.Path, listeners: Sequence[int]) -> None:
+    Workers have what this process has when they are started: settings, rules, and indexes that were checked. When
+    others have come into use, `state` is another number, and new workers take the place of those of another state.
+    """
+
+    def __init__(self, settings: Settings, read: Callable[[], Settings], listeners: Sequence[int]) -> None:
         self._settings = settings
         self._read = read
-        self._folder = folder
         self._listeners = listeners
-        self._metrics = Metrics(folder, settings.workers)
+        self._metrics = Metrics()
         self.waiting, self.costs = Waiting(), Costs()
-        # When their indexes were checked.
-        self._next: Optional[tuple[Settings, RulesFile, Openings]] = None
-        self._ended = 0  # workers that aren't counted yet
-        rules = rules_file(settings)
-        with contextlib.closing(self._openings(settings, ())) as openings:
-            openings.wait()
-            self._use(settings, rules, openings)
+        self.state = 0
+        self._next: Optional[tuple[Settings, RulesFile, list[Opening]]] = None  # which come into use when they were checked
+        self._failed = 0  # workers that aren't counted yet
+        rules, openings = rules_file(settings), _openings(settings, ())
+        try:
+            wait(openings)
+        except BaseException:
+            close(openings)
+            raise
+        self._use(settings, rules, openings)
         super().__init__()
 
     def load_config(self) -> None:
@@ -90,22 +92,24 @@ class Server(BaseApplication):
         try:
             settings = self._read()
             known = self._known() if settings.program == self._settings.program else ()
-            self._next = settings, rules_file(settings, self._rules), self._openings(settings, known)
+            self._next = settings, rules_file(settings, self._rules), _openings(settings, known)
         except (BadSettings, Error, OSError) as error:
             self._keep_settings(error)
 
     def look(self) -> bool:
-        """Goes on with the checks of indexes. Returns whether settings that were read can be used."""
-        ended, self._ended = self._ended, 0
-        self._metrics.ended.inc(ended)
-        self._metrics.keep()
+        """Goes on with what is to come into use. Returns whether settings that were read can be used."""
+        failed, self._failed = self._failed, 0
+        self._metrics.ended.inc(failed)
         self._renew()
-        self._rules.look()
-        self._rules_board.write(self._rules.text)
-        if self._next is not None and self._next[1].has_changed:
-            self.read_again()
+        if self._rules.look():
+            self._apply_rules()
+        if self._next is None:
+            return False
+        _, rules, openings = self._next
         try:
-            return self._next is not None and self._next[2].advance() and self._next[1].has_settled
+            if rules is not self._rules:
+                rules.look()
+            return are_checked(openings) and rules.has_settled
         except (Error, OSError) as error:
             self._end_next()
             self._keep_settings(error)
@@ -117,17 +121,15 @@ class Server(BaseApplication):
             return
         for renewal in self._renewals:
             renewal.close()
-        old = self._gateway
+            self._metrics.old_indexes.labels(renewal.collection.name).set(0)
+            renewal.collection.close()
         self._use(*self._next)
         self._next, self.callable = None, None
-        for collection in old.collections.values():
-            self._metrics.old_indexes.labels(collection.name).set(0)
-            collection.close()
         super().reload()
 
     def end_checks(self) -> None:
         """Ends the checks that go on, and the waiting of requests."""
-        self.waiting.end()
+        self.waiting.has_ended.set(True)
         self._end_next()
         for renewal in self._renewals:
             renewal.close()
@@ -142,57 +144,47 @@ class Server(BaseApplication):
         except HaltServer as error:  # the workers that run end with this process
             raise OSError(error.reason) from None
 
-    def begin_worker(self, server: Master, worker: Any) -> None:
+    def begin_worker(self, server: Master, worker: Worker) -> None:
         end_with_parent(worker.ppid, signal.SIGTERM)
         limit_memory(self._settings.memory)
         gc.freeze()  # what the master has loaded stays
         self._metrics.sit()
-        self._gateway.work.beat = Beat(worker.notify, worker.ppid)
+        self._gateway.work.beat = worker.beat
 
-    def end_worker(self, server: Master, worker: Any) -> None:
+    def end_worker(self, server: Master, worker: Worker) -> None:
         if os.getpid() == worker.pid:
             signal.signal(signal.SIGTERM, signal.SIG_IGN)  # it ends already
-        if os.getpid() == worker.pid and os.getppid() != worker.ppid:  # the master was killed
-            shutil.rmtree(self._folder, ignore_errors=True)
 
-    def note_end(self, server: Master, worker: Any) -> None:
-        """Counts a worker that has ended. gunicorn calls it in the handler of a signal.
+    def note_end(self, server: Master, worker: Worker) -> None:
+        """Counts a worker that wasn't told to end. It is called in the handler of a signal.
 
         The handler may interrupt itself, so it takes no lock: the count is added by `look`.
         """
-        self._ended += 1
+        self._failed += not worker.is_told
 
-    def _openings(self, settings: Settings, known: Container[Identity]) -> Openings:
-        """Begins to check the indexes of settings. Raises OSError."""
-        for folder in (folder for each in settings.collections for folder in each.archives):
-            if not folder.is_dir():
-                raise OSError(f"{folder}: no such folder")
-        return Openings(settings.collections, settings.program, settings.memory, known)
-
-    def _use(self, settings: Settings, rules: RulesFile, openings: Openings) -> None:
+    def _use(self, settings: Settings, rules: RulesFile, openings: Sequence[Opening]) -> None:
         """Makes the application of settings whose indexes were checked."""
-        found = openings.taken()
-        collections = {each.name: Collection(each, settings, found[each.name]) for each in settings.collections}
+        self._settings, self._rules = settings, rules
         self.shares = Shares(self.waiting, settings.wide, settings.limits.wait)
-        self._board = Board(sum(map(most_state, settings.collections)))
-        self._rules, self._rules_board = rules, Board(MOST_RULES)
-        self._rules_board.write(rules.text)
-        self._settings = settings
-        self._gateway = Gateway(settings, collections, self._metrics, self._board, self._rules_board)
-        self._renewals = [Renewal(each, settings.memory) for each in collections.values()]
+        found = {each.name: Collection(each, settings, opening.generation) for each, opening in zip(settings.collections, openings)}
+        self._gateway = Gateway(settings, found, self._metrics)
+        self._renewals = [Renewal(each, settings.memory) for each in found.values()]
+        self._apply_rules()
+
+    def _apply_rules(self) -> None:
+        for name, rules in self._rules.rules.items():
+            self._gateway.collections[name].rules = rules
+        self.state += 1
 
     def _renew(self) -> None:
-        """Goes on with the files that replace indexes, and lets the workers know of them."""
-        collections, known = self._gateway.collections, self._known()
+        """Goes on with the files that replace indexes."""
+        known = self._known()
         for renewal in sorted(self._renewals, key=lambda each: each.begun):
-            running = sum(each.is_running for each in self._renewals)
-            renewal.look(known, running < AT_A_TIME)
-            if renewal.result:
-                self._metrics.renewals.labels(renewal.name, renewal.result).inc()
-        for name, collection in collections.items():
-            self._metrics.old_indexes.labels(name).set(collection.is_old)
-        states = {name: collection.state() for name, collection in collections.items()}
-        self._board.write(json.dumps(states).encode())
+            name = renewal.collection.name
+            if result := renewal.look(known):
+                self._metrics.renewals.labels(name, result).inc()
+                self.state += result == DONE
+            self._metrics.old_indexes.labels(name).set(bool(renewal.collection.is_old))
 
     def _known(self) -> set[Identity]:
         """Returns the identities of the files in use."""
@@ -204,14 +196,22 @@ class Server(BaseApplication):
 
     def _end_next(self) -> None:
         if self._next is not None:
-            self._next[2].close()
+            close(self._next[2])
         self._next = None
 
 
+def _openings(settings: Settings, known: Container[Identity]) -> list[Opening]:
+    """Opens the indexes of settings, to be checked. Raises OSError."""
+    for folder in (folder for each in settings.collections for folder in each.archives):
+        if not folder.is_dir():
+            raise OSError(f"{folder}: no such folder")
+    return openings_of(settings.collections, settings.program, settings.memory, known)
+
+
 def rules_file(settings: Settings, before: Optional[RulesFile] = None) -> RulesFile:
-    """Reads the rules of settings. Raises BadSettings."""
-    path = pathlib.Path(settings.rules) if settings.rules else None
-    return RulesFile(path, settings.program, [each.name for each in settings.collections], before)
+    """Returns the rules of settings, which are those of before if they are of the same file. Raises BadSettings."""
+    source = pathlib.Path(settings.rules) if settings.rules else None, settings.program, [each.name for each in settings.collections]
+    return before if before is not None and before.source == source else RulesFile(*source, before)
 
 
 def run(settings: Settings, read: Callable[[], Settings]) -> None:
@@ -223,23 +223,15 @@ def run(settings: Settings, read: Callable[[], Settings]) -> None:
     allow_files(sum(each.most_files for each in settings.collections))
     if settings.access_log not in ("", "-"):
         open(settings.access_log, "ab").close()
-    master = os.getpid()
-    # systemd has a folder for a service in which nothing is removed because of its age.
-    base = os.environ.get("RUNTIME_DIRECTORY")
-    folder = pathlib.Path(tempfile.mkdtemp(prefix=f"{NAME}-", dir=base))
-    try:
-        addresses = [(settings.address, settings.port), *settings.metrics_address]
-        with contextlib.ExitStack() as stack:
-            listeners = [stack.enter_context(bound(*each)) for each in addresses]
-            server = Server(settings, read, folder, [each.fileno() for each in listeners])
-            for address, listener in zip(addresses, listeners):
-                with naming(*address):
-                    listener.listen(BACKLOG)  # no client waits for the check of the indexes
-            shown = shown_address(listeners[0])
-            for listener in listeners:
-                listener.detach()  # gunicorn closes it
-        print(f"http://{shown}/", flush=True)
-        server.run()
-    finally:
-        if os.getpid() == master:
-            shutil.rmtree(folder, ignore_errors=True)
+    addresses = [(settings.address, settings.port), *settings.metrics_address]
+    with contextlib.ExitStack() as stack:
+        listeners = [stack.enter_context(bound(*each)) for each in addresses]
+        server = Server(settings, read, [each.fileno() for each in listeners])
+        for address, listener in zip(addresses, listeners):
+            with naming(*address):
+                listener.listen(BACKLOG)  # no client waits for the check of the indexes
+        shown = shown_address(listeners[0])
+        for listener in listeners:
+            listener.detach()  # gunicorn closes it
+    print(f"http://{shown}/", flush=True)
+    server.run()

@@ -1,49 +1,25 @@
-"""What the workers share: locks of files, words of the master, and counts for Prometheus."""
-import contextlib
-import errno
+"""What the workers share: locks of files, flags, and counts for Prometheus."""
 import fcntl
-import hashlib
+import functools
 import http
+import itertools
 import mmap
 import os
-import pathlib
 import struct
-import time
-from collections.abc import Callable
-from typing import BinaryIO, Optional
+import sys
+from typing import Any, BinaryIO, Optional
 
 from prometheus_client import CollectorRegistry, generate_latest, multiprocess, values
 from prometheus_client.metrics import Counter, Gauge, Histogram
 from prometheus_client.mmap_dict import MmapedDict
 
-from .refusal import say
-
-BEATS = 0.25  # seconds between two beats
-FILE = 1 << 16  # bytes of a file of counts, as prometheus_client makes it
-MOST_ADDED = 24  # bytes that the file has for a count beside its name
-MOST_SEATS = 4096  # workers that run at a time
+KINDS = ("counter", "gauge_max", "histogram")  # of counts
+ROOM = 4 << 20  # bytes for the counts of a kind and a seat
+HEAD = 8  # bytes before them, as prometheus_client has it
+MOST_ADDED = 64  # bytes that a count takes beside its name, and those at the end
+MOST_SEATS = 4096  # processes that run at a time
 STATUSES = frozenset(http.HTTPStatus)  # that are counted by themselves, as an archive may have any other
 BOUNDS = (0.005, 0.01, 0.025, 0.05, 0.1, 0.25, 0.5, 1.0, 2.5, 5.0, 10.0, 30.0)  # seconds
-
-
-class Beat:
-    """Shows the master that a worker goes on, by a system call, at most four times a second.
-
-    Raises ConnectionResetError if the master has ended.
-    """
-
-    def __init__(self, notify: Callable[[], None], master: int) -> None:
-        self._notify = notify
-        self._master = master
-        self._last = 0.0
-
-    def __call__(self) -> None:
-        now = time.monotonic()
-        if now - self._last >= BEATS:
-            self._last = now
-            self._notify()
-            if os.getppid() != self._master:
-                raise ConnectionResetError(errno.ECONNRESET, "the master has ended")
 
 
 class Slots:
@@ -72,95 +48,68 @@ class Slots:
         os.close(self._file)
 
 
-class Board:
-    """A text that one process writes and the ones that it starts read, in memory that no others have.
+class Flag:
+    """Whether something is so: one process says it, and the ones that it has started know it at once."""
 
-    `owner` is the ID of that process, and `size` the most bytes of the text.
+    def __init__(self, value: bool) -> None:
+        self._memory = mmap.mmap(-1, 1)
+        self.set(value)
+
+    def set(self, value: bool) -> None:
+        self._memory[0] = value
+
+    def __bool__(self) -> bool:
+        return bool(self._memory[0])
+
+
+class Counts(MmapedDict):  # type: ignore[misc]
+    """The counts of a kind and a seat. They are in memory, and prometheus_client asks for them by the name of a file.
+
+    So no disk has to have room for them. Those for which this memory has no room are lost.
     """
 
-    _HEAD = struct.Struct("=QQ32s")  # how often it was written, the bytes of the text, its digest
+    def __init__(self, name: str) -> None:
+        kind, _, seat = name.removesuffix(".db").rpartition("_")
+        offset = (int(seat) * len(KINDS) + KINDS.index(kind)) * ROOM
+        self._f, self._capacity = None, ROOM
+        self._m = mmap.mmap(counts_file(), ROOM, offset=offset)
+        self._used = max(int.from_bytes(self._m[:4], sys.byteorder), HEAD)
+        self._positions = {each[0]: each[-1] for each in self._read_all_values()}
 
-    def __init__(self, size: int) -> None:
-        self.owner = os.getpid()
-        self._memory = mmap.mmap(-1, self._HEAD.size + size)
-        self._count = 0
-        self._text = b""
+    @property
+    def has_any(self) -> bool:
+        return bool(self._positions)
 
-    def write(self, text: bytes) -> None:
-        if text != self._text:
-            self._count, self._text = self._count + 1, text
-            head = self._HEAD.pack(self._count, len(text), hashlib.sha256(text).digest())
-            self._memory[: len(head) + len(text)] = head + text
-
-    def read(self) -> bytes:
-        """Returns the text. While another one is written, it is that of before."""
-        count, size, digest = self._HEAD.unpack_from(self._memory)
-        if count != self._count:
-            text = self._memory[self._HEAD.size : self._HEAD.size + size]
-            if hashlib.sha256(text).digest() == digest:
-                self._count, self._text = count, text
-        return self._text
-
-
-class CountsFile(MmapedDict):  # type: ignore[misc]
-    """A file of counts that has room for them: a process ends that writes to a page of a file for which the disk has none.
-
-    Without room the counts go on in memory, where nobody reads them. The process says so once.
-    """
-
-    is_told = False
-
-    def __init__(self, filename: str) -> None:
-        try:
-            allocate(filename)
-            super().__init__(filename)
-        except OSError as error:
-            self._go_on_in_memory(error)
+    @staticmethod
+    def read_all_values_from_file(name: str) -> Any:
+        return Counts(name)._read_all_values()
 
     def _init_value(self, key: str) -> None:
-        if self._used + len(key.encode()) + MOST_ADDED > self._capacity:
-            try:
-                os.posix_fallocate(self._f.fileno(), 0, 2 * self._capacity)
-            except OSError as error:
-                self._go_on_in_memory(error, self._m[:])
-        super()._init_value(key)
-
-    def _go_on_in_memory(self, error: OSError, counted: bytes = b"") -> None:
-        with open(os.memfd_create("counts"), "wb") as file:
-            file.write(counted)
-            file.flush()
-            super().__init__(f"/proc/self/fd/{file.fileno()}")
-        if not CountsFile.is_told:
-            CountsFile.is_told = True
-            say(f"a process has no room for its counts, which are lost: {error.strerror}")
+        if self._used + len(key.encode()) + MOST_ADDED > ROOM:
+            self._positions[key] = ROOM - HEAD - HEAD  # where nobody reads it
+        else:
+            super()._init_value(key)
 
 
-def allocate(name: "str | os.PathLike[str]") -> None:
-    """Makes a file of counts, for which the disk has room. Raises OSError, and then leaves no empty file."""
-    with open(name, "ab") as file:  # of which another process may have a part already
-        try:
-            os.posix_fallocate(file.fileno(), 0, FILE)
-        except OSError:
-            if not os.fstat(file.fileno()).st_size:
-                os.unlink(name)
-            raise
+@functools.cache
+def counts_file() -> int:
+    """Returns the file in memory that has all counts. The system has what of it is used."""
+    file = os.memfd_create("counts")
+    os.truncate(file, MOST_SEATS * len(KINDS) * ROOM)
+    return file
 
 
 class Metrics:
-    """Counts of all workers since the start, in files of a folder.
+    """Counts of this process and of its workers since the start.
 
-    A worker has the files of a seat. Its successor goes on with them. They are filled at the start.
+    Each of them has a seat, and its successor goes on with the counts of that.
     """
 
-    def __init__(self, folder: pathlib.Path, workers: int = 1) -> None:
-        self._folder = folder
+    def __init__(self) -> None:
         self._seats = Slots()
-        self._seat = "master"
-        seats = "master", *map(str, range(2 * workers))
-        self._files = [folder / f"{kind}_{seat}.db" for seat in seats for kind in ("counter", "gauge_max", "histogram")]
-        self._fill()
-        os.environ["PROMETHEUS_MULTIPROC_DIR"] = str(folder)
-        values.MmapedDict = CountsFile
+        self._seat, self._taken = 0, self._seats.take_one(0)  # which stays open
+        os.environ["PROMETHEUS_MULTIPROC_DIR"] = ""
+        values.MmapedDict = multiprocess.MmapedDict = Counts
         values.ValueClass = values.MultiProcessValue(lambda: self._seat)
         # The registry is of this object, as a master that reads its settings again has another one.
         registry = CollectorRegistry()
@@ -172,7 +121,7 @@ class Metrics:
         self.refusals = counter("refusals", "Queries that were refused.", "cause")
         self.broken = counter("broken_answers", "Answers that were broken off.", "cause")
         self.bytes = counter("answer_bytes", "Bytes of answers.")
-        self.ended = counter("ended_workers", "Workers that were ended, or have failed.")
+        self.ended = counter("ended_workers", "Workers that have ended, but for those that others have replaced.")
         self.renewals = counter("index_renewals", "Indexes that were replaced and opened.", "collection", "result")
         self.old_indexes = Gauge(
             "warcdx_gateway_old_indexes",
@@ -193,24 +142,17 @@ class Metrics:
         """Takes a seat, in a new worker."""
         for number in range(MOST_SEATS):
             if (taken := self._seats.take_one(number)) is not None:
-                self._seat, self._taken = str(number), taken  # which stays open
+                if self._taken is not None:
+                    self._taken.close()  # which the master has too
+                self._seat, self._taken = number, taken
                 break
-        self.keep()
-        self.bytes.inc(0)  # which opens the files of the seat
+        self.bytes.inc(0)  # so that the seat has a count
 
-    def keep(self) -> None:
-        """Makes the folder anew if it is gone, as by a cleaner of old files. What was counted is lost."""
-        with contextlib.suppress(OSError):
-            if not self._folder.exists():
-                self._folder.mkdir(mode=0o700)
-                self._fill()
-
-    def _fill(self) -> None:
-        for name in self._files:
-            allocate(name)
+    def collect(self) -> Any:
+        """Returns all counts, for `text`."""
+        seats = itertools.takewhile(lambda seat: Counts(f"counter_{seat}.db").has_any, itertools.count())
+        return multiprocess.MultiProcessCollector.merge([f"{kind}_{seat}.db" for seat in seats for kind in KINDS])
 
     def text(self) -> bytes:
         """Returns all counts in the text format of Prometheus."""
-        registry = CollectorRegistry()
-        multiprocess.MultiProcessCollector(registry, str(self._folder))
-        return bytes(generate_latest(registry))
+        return bytes(generate_latest(self))

@@ -16,7 +16,7 @@ from collections.abc import Iterator
 from typing import Optional
 
 from .settings import is_loopback
-from .shared import Slots
+from .shared import Flag, Slots
 from .work import Connection, Lease
 
 QUEUES = 32  # the addresses of clients are spread over all but the first
@@ -35,7 +35,7 @@ class Waiting:
 
     def __init__(self) -> None:
         self.slots, self.turn = Slots(), Slots()
-        self._has_ended = mmap.mmap(-1, 1)  # whether no worker takes what waits from now on
+        self.has_ended = Flag(False)  # whether the gateway ends, and no worker takes what waits from now on
         self._ends = [socket.socketpair(socket.AF_UNIX, socket.SOCK_SEQPACKET) for _ in range(QUEUES)]
         for pair in self._ends:
             for end in pair:
@@ -53,13 +53,9 @@ class Waiting:
         for end in itertools.chain.from_iterable(self._ends):
             end.close()
 
-    def end(self) -> None:
-        """Lets the workers know that the gateway ends."""
-        self._has_ended[0] = 1
-
     def rest(self) -> Iterator[Connection]:
         """Yields the connections that wait if the gateway ends. There is no slot for them."""
-        for queue in range(QUEUES) if self._has_ended[0] else ():
+        for queue in range(QUEUES) if self.has_ended else ():
             while (client := self.take(queue, Lease.NONE)) is not None:
                 yield client
 

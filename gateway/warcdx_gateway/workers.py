@@ -1,11 +1,15 @@
 """The master and its workers, as gunicorn runs them."""
 import contextlib
+import errno
 import logging
+import mmap
+import operator
 import os
 import re
 import select
 import signal
 import socket
+import struct
 import sys
 import time
 from collections.abc import Iterable
@@ -23,11 +27,12 @@ from .refusal import NAME, without_controls
 from .waiting import COSTLY_LEVEL, address_of, queue_of
 from .work import MOST_FREE, Connection, Lease, NeedsSlot
 
-HANDLED = (signal.SIGTERM, signal.SIGINT, signal.SIGQUIT, signal.SIGABRT, signal.SIGUSR1)  # by a worker
+HANDLED = (signal.SIGTERM, signal.SIGINT, signal.SIGQUIT, signal.SIGABRT, signal.SIGUSR1, signal.SIGHUP)  # by a worker
 LATER = (signal.SIGHUP, signal.SIGUSR1)  # which wait until the gateway answers
 MASTER = os.getpid()  # which loads this
 SILENCE = 2  # seconds for a client to send its request when a worker ends
-PAUSE = 0.05  # seconds until a worker looks again for a slot for those that wait
+AGAIN = 10  # seconds until workers are started again, after one has failed before it answered
+PAUSE = 0.05  # seconds until a worker looks again for a slot for those that wait, and the master whether a new worker has begun
 VERSIONS = ((1, 0), (1, 1))
 _CONTROL = re.compile("[\0-\x1f\x7f]")  # which no target of a request has
 _END = re.compile("[\0\r\n]")  # what other servers may take for the end of a field
@@ -35,31 +40,37 @@ _NUMBER = re.compile("[0-9]+")
 
 
 class Sign:
-    """The file by whose time a worker shows the master that it goes on.
+    """The moment at which a worker has shown the master that it goes on.
 
     It is in memory. On a full disk gunicorn's own couldn't be made, and the master would end.
     """
 
+    _MOMENT = struct.Struct("=d")  # by a clock that nobody sets
+
     def __init__(self, config: Any) -> None:
-        self._file = open(os.memfd_create("worker"), "wb", buffering=0)  # which is closed with this object
-        self._mode = 0
-        self._seen = (0.0, 0.0)  # the time of the file, and when the master has found it, by a clock that nobody sets
+        self._file = open(os.memfd_create("worker"), "w+b", buffering=0)  # which is closed with this object
+        self._file.truncate(self._MOMENT.size)
+        self._memory = mmap.mmap(self.fileno(), self._MOMENT.size)
+        self._made = time.monotonic()
 
     def notify(self) -> None:
-        self._mode ^= 1
-        os.fchmod(self.fileno(), self._mode)
+        self._MOMENT.pack_into(self._memory, 0, time.monotonic())
+
+    @property
+    def has_begun(self) -> bool:
+        """Whether the worker has ever shown it. One that has ended may be closed already, by a signal."""
+        return not self._memory.closed and self._MOMENT.unpack_from(self._memory) != (0.0,)
 
     def last_update(self) -> float:
         """Returns the time in seconds since 1970, as gunicorn compares it. It moves with a clock that is set."""
-        changed = os.fstat(self.fileno()).st_ctime
-        if changed != self._seen[0]:
-            self._seen = changed, time.monotonic()
-        return time.time() - (time.monotonic() - self._seen[1])
+        moment = self._MOMENT.unpack_from(self._memory)[0] or self._made
+        return time.time() - (time.monotonic() - float(moment))
 
     def fileno(self) -> int:
         return self._file.fileno()
 
     def close(self) -> None:
+        self._memory.close()
         self._file.close()
 
 
@@ -98,7 +109,10 @@ class Master(gunicorn.arbiter.Arbiter):
     """The process that keeps the workers."""
 
     is_told = False  # that no worker can be started now
+    has_begun = False  # a worker, ever
     has_failed = False  # a worker before it answered
+    _is_waiting = False  # for new workers to begin, so that others can end
+    _again = 0.0  # when workers may be started again, after one has failed before it answered
 
     def reap_workers(self) -> None:
         """Takes the statuses of workers, and leaves those of the programs that the master has started."""
@@ -109,26 +123,58 @@ class Master(gunicorn.arbiter.Arbiter):
                 found, status = process, 0
             # This may be called again, by a signal, before it ends.
             if found and self.WORKERS.pop(process, None) is not None:
-                worker.tmp.close()
                 self.cfg.child_exit(self, worker)
+                self.has_begun |= worker.tmp.has_begun
+                worker.tmp.close()
                 self.has_failed |= os.waitstatus_to_exitcode(status) in (self.WORKER_BOOT_ERROR, self.APP_LOAD_ERROR)
+
+    def _tell(self, cause: Optional[str]) -> None:
+        """Says once why a worker can't be started."""
+        if not self.is_told:
+            self.is_told = True
+            self.log.error("a worker can't be started: %s", cause)
 
     def init_signals(self) -> None:
         super().init_signals()
         signal.pthread_sigmask(signal.SIG_UNBLOCK, LATER)
 
     def manage_workers(self) -> None:
+        """Starts and ends workers, so that there are as many as there should be, of the present state.
+
+        Those of another state are told to end when a new one has begun, so that somebody answers.
+        """
         self.reap_workers()  # also one that has ended before it was known
-        if self.has_failed:
+        self.has_begun |= any(each.tmp.has_begun for each in self._of_state(True) + self._of_state(False))
+        if self.has_failed and not self.has_begun:
             raise HaltServer("the workers can't be started, as for want of memory")
+        if self.has_failed:
+            self.has_failed, self._again = False, time.monotonic() + AGAIN
+            self._tell("it has ended before it answered, as for want of memory")
         if self.app.look():
             self.reload()  # which comes back to this
-        else:
-            super().manage_workers()
+            return
+        present = self._of_state(True)
+        if present and present[-1].tmp.has_begun:
+            self._again = 0.0
+        missing = self.num_workers - len(present)
+        for _ in range(min(missing, int(time.monotonic() >= self._again)) if self._again else missing):
+            self.spawn_worker()
+        present = self._of_state(True)
+        replaced = [each for each in self._of_state(False) + present[: -self.num_workers] if not each.is_told]
+        has_begun = any(each.tmp.has_begun for each in present)
+        for worker in replaced if has_begun else ():
+            worker.is_told = True
+            self.kill_worker(worker.pid, signal.SIGTERM)
+        self._is_waiting = bool(replaced) and not has_begun and not self._again
+
+    def _of_state(self, is_present: bool) -> "list[Worker]":
+        """Returns the workers of the present state, or of others, by their age."""
+        workers = sorted(self.WORKERS.values(), key=operator.attrgetter("age"))
+        return [each for each in workers if (each.state == self.app.state) == is_present]
 
     def sleep(self) -> None:
         """Waits for a signal, a second at most. gunicorn's own would end the gateway if it has a thousand files open."""
-        poll_of([self.PIPE[0]]).poll(1000)
+        poll_of([self.PIPE[0]]).poll(1000 * (PAUSE if self._is_waiting else 1))
         with contextlib.suppress(BlockingIOError):
             os.read(self.PIPE[0], 64)  # a byte for each signal
 
@@ -144,12 +190,10 @@ class Master(gunicorn.arbiter.Arbiter):
         signal.pthread_sigmask(signal.SIG_BLOCK, HANDLED)
         try:
             found = super().spawn_worker()
-            self.is_told = False
+            self.is_told = self._again > 0
             return found
         except OSError as error:
-            if not self.is_told:
-                self.is_told = True
-                self.log.error("a worker can't be started: %s", error.strerror)
+            self._tell(error.strerror)
         except SystemExit as end:
             if os.getpid() != self.pid:  # a worker isn't the command, which writes what is left and says how that went
                 os._exit(end.code if isinstance(end.code, int) else 0)
@@ -168,6 +212,17 @@ class Worker(gunicorn.workers.sync.SyncWorker):
     """A process that answers one request at a time."""
 
     is_reading = False  # a request
+    is_told = False  # to end, as others take its place
+
+    def __init__(self, *arguments: Any) -> None:
+        super().__init__(*arguments)
+        self.state = self.app and self.app.state
+
+    def beat(self) -> None:
+        """Shows the master that this worker goes on. Raises ConnectionResetError if the master was killed."""
+        self.notify()
+        if os.getppid() != self.ppid:
+            raise ConnectionResetError(errno.ECONNRESET, "the master has ended")
 
     def run(self) -> None:
         """Answers a new request, and one that has waited, as long as there are any."""
@@ -229,8 +284,8 @@ class Worker(gunicorn.workers.sync.SyncWorker):
         signal.alarm(SILENCE)
 
     def handle_silence(self, sig: int, frame: Optional[FrameType]) -> None:
-        """Ends at once if the client hasn't sent its request yet, or the master was killed."""
-        if self.is_reading or os.getppid() != self.ppid:
+        """Ends at once if the gateway ends, and the client hasn't sent its request yet, or the master was killed."""
+        if self.is_reading and self.app.waiting.has_ended or os.getppid() != self.ppid:
             sys.exit(0)
 
     def handle(self, listener: Any, client: socket.socket, addr: Any) -> None:
@@ -253,14 +308,15 @@ class Worker(gunicorn.workers.sync.SyncWorker):
         # Two requests with bodies may have one URI, and differ in what they cost.
         costs, name = self.app.costs, "" if req.method == "POST" else f"{req.method} {req.uri}"
         is_costly = costs.level(name) > 0 or costs.level(address or "") > COSTLY_LEVEL
-        if not (client.lease is Lease.FREE and is_costly):
+        is_over = not self.alive and not self.app.waiting.has_ended  # others have what came into use meanwhile
+        if not (client.lease is Lease.FREE and (is_costly or is_over)):
             try:
                 super().handle_request(listener, req, client, addr)
                 return
             except NeedsSlot:
                 for each in filter(None, (name, address)):
                     costs.note(each)
-        if not self.alive:
+        if self.app.waiting.has_ended:
             self._answer(client.passed_on(Lease.SLOT))
         elif not self.app.waiting.put(queue_of(address), client):
             self._answer(client.passed_on(Lease.NONE))

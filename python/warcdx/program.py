@@ -138,9 +138,11 @@ class Process:
                     reading, self.stdin = _pipe(given, kept)
                     stdin = reading.fileno()
                 streams = (stdin, output.fileno(), self._said.fileno())
-                actions: list[tuple[int, ...]] = [(os.POSIX_SPAWN_CLOSE, each) for each in _inherited()]
+                kept_open = list(descriptors)
+                actions: list[tuple[int, ...]] = []
                 actions += [(os.POSIX_SPAWN_DUP2, each, number) for number, each in enumerate(streams) if each is not None]
-                actions += [(os.POSIX_SPAWN_DUP2, each, each) for each in descriptors]  # so it stays open
+                actions += [(os.POSIX_SPAWN_CLOSE, each) for each in _inherited() if each not in kept_open]
+                actions += [(os.POSIX_SPAWN_DUP2, each, each) for each in kept_open]  # so it stays open
                 self.pid = os.posix_spawnp(
                     self.path, command, os.environ, file_actions=actions, setsigmask=(), setsigdef=(signal.SIGPIPE, signal.SIGXFSZ)
                 )

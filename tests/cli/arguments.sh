@@ -15,12 +15,12 @@ refusal() { # ERROR USAGE
     lines "error: $1" "" "Usage: warcdx $2" "" "For more information, try '--help'."
 }
 
-unknown() { # WORD
-    refusal "unrecognized subcommand '$1'" "[COMMAND]"
-}
-
 tipped() { # WORD TIP
     lines "error: unrecognized subcommand '$1'" "" "  tip: $2" "" "For more information, try '--help'."
+}
+
+unknown() { # WORD
+    tipped "$1" "the commands are list, verify, index, merge, check, query, pages, serve, get and scan"
 }
 
 file_first() { # WORD
@@ -28,7 +28,7 @@ file_first() { # WORD
 }
 
 no_offset() { # WORD
-    invalid "$1" "<OFFSET>" "an offset is 1 to 19 digits, below 2^63, and precedes the archive"
+    invalid "$1" "<OFFSET>" "an offset is 1 to 19 digits, below 2^63, and precedes the archive; warcdx-fetch takes a URL"
 }
 
 no_sizes() { # WORD
@@ -69,9 +69,11 @@ to_file() { option "$1" "the output is standard output: write '> FILE' behind th
 of_update() { option "$1" "'warcdx-update' indexes folders, several archives at a time"; }
 of_query() { option "$1" "the parameters of a query stand in its text, as 'url=example.com&limit=5'"; }
 sorted() { option "$1" "'index' and 'merge' write sorted lines"; }
+verbose() { option "$1" "no option prints more; '-V' as the only argument prints the version"; }
 quiet() { option "$1" "standard error has faults alone: write '2> FILE' behind the command"; }
 of_format() { option "$1" "'index' writes CDXJ, and a query with 'output=json' JSON"; }
 of_gateway() { option "$1" "warcdx-gateway answers over HTTP, and 'serve' line by line"; }
+of_fetch() { option "$1" "warcdx-fetch writes the body of a page, by its URL"; }
 no_command() { option "$1" "a command is written without '-', as in 'list FILE'"; }
 
 option() { # OPTION TIP
@@ -152,12 +154,15 @@ check "--types of another command"      "" "$(misplaced --types)"         2 list
 check "--types of an option"            "" "$(unexpected -x)"              2 index --types -x m.warc
 check "-o"                              "" "$(to_file -o)"                 2 index -o m.cdxj m.warc
 check "--output"                        "" "$(to_file --output)"           2 index m.warc --output m.cdxj
+check "--output=m.cdxj"                 "" "$(to_file --output=m.cdxj)"    2 index m.warc --output=m.cdxj
 check "--jobs"                          "" "$(of_update --jobs)"           2 index --jobs 4 m.warc
 check "-r"                              "" "$(of_update -r)"               2 index -r folder
 check "--limit"                         "" "$(of_query --limit)"           2 query --limit 5 url=a a.cdxj
+check "--limit=5"                       "" "$(of_query --limit=5)"         2 query --limit=5 url=a a.cdxj
 check "-n"                              "" "$(of_query -n)"                2 query -n 5 url=a a.cdxj
 check "--quiet"                         "" "$(quiet --quiet)"              2 list --quiet m.warc
-check "-v"                              "" "$(quiet -v)"                   2 verify -v m.warc
+check "-v"                              "" "$(verbose -v)"                 2 -v
+check "--verbose"                       "" "$(verbose --verbose)"          2 verify --verbose m.warc
 check "-s"                              "" "$(sorted -s)"                  2 index -s m.warc
 check "--sort"                          "" "$(sorted --sort)"              2 index --sort m.warc
 check "--json"                          "" "$(of_format --json)"           2 list --json m.warc
@@ -165,6 +170,7 @@ check "--port"                          "" "$(of_gateway --port)"          2 ser
 check "--offset=0"                      "" "$(misplaced_offset --offset=0)" 2 get --offset=0 r.warc
 check "--surt"                          "" "$(unexpected --surt)"          2 index --surt m.warc
 check "--offset"                        "" "$(misplaced_offset --offset)"  2 get --offset 0 m.warc
+check "--payload"                       "" "$(of_fetch --payload)"         2 get --payload 0 r.warc
 check "--from"                          "" "$(of_query --from)"            2 query url=a a.cdxj --from 2016
 check "--type"                          "" "$(misplaced --type)"           2 index --type response m.warc
 check "--list"                          "" "$(no_command --list)"          2 --list m.warc
@@ -205,6 +211,8 @@ check "get without an archive"          "" "$no_archive"                   2 get
 check "get of two archives"             "" "$one_too_many"                 2 get 0 r.warc q.warc
 check "get with a length behind"        "" "$(length_behind 264)"          2 get 0 264 r.warc
 check "get x"                           "" "$(no_offset x)"                2 get x r.warc
+check "get of an archive alone"         "" "$(no_offset r.warc)"           2 get r.warc
+check "get of a URL"                    "" "$(no_offset http://a/)"        2 get http://a/ sorted.cdxj
 check "get of an empty offset"          "" "$(no_offset "")"               2 get "" r.warc
 check "get +1"                          "" "$(no_offset +1)"               2 get +1 r.warc
 check "get -1"                          "" "$(negative -1)"                2 get -1 r.warc

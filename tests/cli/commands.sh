@@ -329,6 +329,7 @@ printf '\357\273\277%s' "$(< r.warc)" > marked.warc
 printf '\357\273\277' | cat - sorted.cdxj > marked.cdxj
 echo text > forged
 printf '\050\265\057\375' > r.warc.zst
+printf ']*M\030' > dictionary.warc.zst
 printf 'WARC/1.1\nWARC-Type: response\n\n' > unix.warc
 printf 'filedesc://a.arc 0.0.0.0 20000101000000 text/plain 77\n' > a.arc
 printf '<!DOCTYPE html>\n' > page.html
@@ -338,20 +339,27 @@ printf '\3757zXZ\000' > r.xz
 printf '\377\376{\000' > wide
 printf '{"url": "http://a/"}\n' | tee folder/manifest.json > objects
 printf '!meta {"format": "1"}\n' > headed
+printf '{\n  "log": {\n' > browser.har
+printf '{"log":{' > small.har
 printf 'com,a)/\t20200101000000\t{"url": "http://a/"}\n' > tabbed
 advises "why: no such file"         "No such file or directory (os error 2)"                            3 index missing
 advises "why: an archive of gzip"   "It is compressed by gzip: warcdx-gz reads .warc.gz files."         1 index r.warc.gz
 advises "why: not a WARC file"      "No record begins there: its first line isn't WARC/1.0 or WARC/1.1." 1 index forged
 advises "why: an archive of zstd"   "It is compressed by zstd: decompress it first."                    1 index r.warc.zst
+advises "why: one of zstd with a dictionary" "It is compressed by zstd with the dictionary in its first frame: decompress it by zstd -D first." 1 index dictionary.warc.zst
+for file in browser.har small.har; do
+    advises "why: $file"            "It is a HAR file: convert it to a WARC file first, by har2warc."   1 index $file
+done
 advises "why: LF alone"             "Its first line ends with LF alone: a WARC file has CR LF after each line of a header." 1 index unix.warc
 advises "why: an ARC file"          "It is an ARC file: convert it to a WARC file first."               1 index a.arc
 advises "why: an HTML file"         "It seems to be an HTML or XML file, and not a WARC file."          1 index page.html
-advises "why: an older version"     "No record begins there: its first line isn't WARC/1.0 or WARC/1.1." 1 index old.warc
+advises "why: an older version"     "It is a WARC file of a version before 1.0: convert it to WARC/1.0 first." 1 index old.warc
 advises "why: an index as an archive" "It seems to be an index: warcdx query reads indexes."              1 index sorted.cdxj
 advises "why: a ZIP file"           "It is a ZIP file, as a WACZ file is: unpack it, and index the WARC files in it." 1 index crawl.wacz
 advises "why: a CDX file"           "It is a CDX file: warcdx-cdx from FILE | LC_ALL=C sort makes an index of it." 1 index crawl.cdx
 advises "why: a byte order mark"    "It begins with a byte order mark: remove its first 3 bytes."       1 index marked.warc
 advises "why: a folder"             "It is a folder: warcdx-update indexes the archives of a folder."   3 index folder
+advises "why: a folder with /"      "It is a folder: warcdx-update indexes the archives of a folder."   1 index folder/
 advises "why: a cut archive"        "The archive ends within a record's header."                        1 index torn.warc
 advises "why: a file name twice"    "Another archive has this file name: rename one of them."           1 index r.warc folder/r.warc
 advises "why: no record"            "No record begins at this offset, or it has another length: list prints the offsets." 1 get 1 r.warc
@@ -359,7 +367,7 @@ advises "why: no record of an index" "It seems to be an index: warcdx query read
 advises "why: no record of gzip"    "It is compressed by gzip: warcdx-gz reads .warc.gz files."         1 get --length 5 1 r.warc.gz
 advises "why: no record of any other file" "No record begins there: its first line isn't WARC/1.0 or WARC/1.1." 1 get --length 5 1 forged
 advises "why: a folder as an index" "It is a folder: of an index of warcdx-update, name its current/*.cdxj." 3 check folder
-advises "why: an index of gzip"     "It is compressed by gzip: decompress an index. Of an archive, warcdx-gz index makes one." 1 check sorted.cdxj.gz
+advises "why: an index of gzip"     "It is compressed by gzip: decompress an index. Of an archive, warcdx-gz index makes one, and verify checks it." 1 check sorted.cdxj.gz
 advises "why: an index of zstd"     "It is compressed by zstd: decompress it first."                    1 check r.warc.zst
 for kind in index check; do
     advises "why: $kind of bzip2"   "It is compressed by bzip2: decompress it first."                   1 "$kind" r.bz2
@@ -373,14 +381,19 @@ advises "why: a header of an index" "A line that begins with ! is no capture: gr
 advises "why: tabs in an index"     "In an index a space, and no tab, follows the URL key and the timestamp." 1 check tabbed
 advises "why: HTML as an index"     "It seems to be an HTML or XML file, and not an index."             1 check page.html
 advises "why: a bad line"           "The line that begins there isn't one of a CDXJ index."             1 check forged
-advises "why: a WARC file as an index" "It is a WARC file: warcdx index makes an index of it."          1 check r.warc
+advises "why: a WARC file as an index" "It is a WARC file: warcdx index makes an index of it, and warcdx verify checks it."          1 check r.warc
 advises "why: a CDX file as an index" "It is a CDX file: warcdx-cdx from FILE | LC_ALL=C sort makes an index of it." 1 query url=a crawl.cdx
 advises "why: a byte order mark before an index" "It begins with a byte order mark: remove its first 3 bytes." 1 check marked.cdxj
 advises "why: a falling index"      "The index isn't in order: LC_ALL=C sort puts its lines in order."  1 check falling.cdxj
 advises "why: 1,025 indexes"        "At most 1024 files are taken: merge the indexes of some of them first." 1 merge "${too_many[@]}"
 parameters="A & in a URL is written as %26. The parameters are url, key, matchType, from, to, filter, is, isnot, has, hasnot, limit, resumeKey, \
 showResumeKey, fl, output and collapse. warcdx-gateway has others too."
-advises "why: an unknown parameter" "'page' isn't a parameter. $parameters"                             1 query "url=a&page=0" sorted.cdxj
+advises "why: an unknown parameter" "'x' isn't a parameter. $parameters"                                1 query "url=a&x=0" sorted.cdxj
+for parameter in matchtype:matchType resumekey:resumeKey showresumekey:showResumeKey fields:fl status:filter=statuscode:TEXT mime:filter=mimetype:TEXT; do
+    advises "why: ${parameter%%:*}" "'${parameter%%:*}' isn't a parameter, and ${parameter#*:} is. $parameters" 1 query "url=a&${parameter%%:*}=0" sorted.cdxj
+done
+advises "why: page"                 "'page' is for warcdx-gateway: warcdx pages writes all pages. $parameters" 1 query "url=a&page=0" sorted.cdxj
+advises "why: sort"                 "'sort' is for warcdx-gateway: the order here is that of the index. $parameters" 1 query "url=a&sort=reverse" sorted.cdxj
 advises "why: a field as a parameter" "'statuscode' is a field, for filter=FIELD:TEXT. $parameters"      1 query "url=a&statuscode=200" sorted.cdxj
 for query in "url=a&%70age=0" $'url=a&x\nwarcdx: y: fault 0 Read=1'; do
     advises "why: $(head --lines=1 <<< "$query")" "$parameters"                                         1 query "$query" sorted.cdxj
@@ -392,16 +405,16 @@ advises "why: a ? before a query"   "A query begins behind the ? of a URL. $para
 advises "why: &amp; in a query"     "Write & in place of &amp;. $parameters"                            1 query "url=a&amp;limit=1" sorted.cdxj
 advises "why: standard input as an index" "An index is a file, because it is searched: write what a pipe has to a file first." 3 query url=a -
 advises "why: a pattern" "filter takes a literal text, without \\ ^ \$ . | ? * + ( ) [ ] { }. For a part of a value, write has=FIELD:TEXT, and for a \
-choice of values a query for each." \
+choice of values a query for each. warcdx-gateway takes patterns." \
     1 query "url=a&filter=statuscode:2.." sorted.cdxj
 advises "why: a parameter twice"    "'limit' is given twice. Only filter, is, isnot, has and hasnot may be given more than once." 1 query "url=a&limit=1&limit=1" sorted.cdxj
 advises "why: a condition and a parameter twice" "'limit' is given twice. Only filter, is, isnot, has and hasnot may be given more than once." \
     1 query "url=a&is=urlkey:a&limit=1&is=urlkey:a&limit=1" sorted.cdxj
-advises "why: an unknown field"     "'urlkeys' isn't a field. fl is a list, with ',' between, of urlkey, timestamp, original, mimetype, statuscode, digest, \
+advises "why: an unknown field"     "'urlkeys' isn't a field. fl is a list, with ',' and no space between, of urlkey, timestamp, original, mimetype, statuscode, digest, \
 length, offset and filename." 1 query "url=a&fl=urlkey,urlkeys" sorted.cdxj
-advises "why: a blank in fl"        "' original' isn't a field. fl is a list, with ',' between, of urlkey, timestamp, original, mimetype, statuscode, digest, \
+advises "why: a blank in fl"        "' original' isn't a field. fl is a list, with ',' and no space between, of urlkey, timestamp, original, mimetype, statuscode, digest, \
 length, offset and filename." 1 query "url=a&fl=urlkey, original" sorted.cdxj
-advises "why: no field"             "fl is a list, with ',' between, of urlkey, timestamp, original, mimetype, statuscode, digest, length, offset and filename." \
+advises "why: no field"             "fl is a list, with ',' and no space between, of urlkey, timestamp, original, mimetype, statuscode, digest, length, offset and filename." \
     1 query "url=a&fl=ur%6cke" sorted.cdxj
 condition="A condition is FIELD:TEXT, such as filter=statuscode:200. The fields are urlkey, timestamp, original, mimetype, statuscode, digest, length, \
 offset and filename."
@@ -411,15 +424,20 @@ for meant in status:statuscode mime:mimetype url:original; do
 done
 advises "why: a condition without a colon" "$condition"                                                 1 query "url=a&has=urlkey" sorted.cdxj
 advises "why: a condition of pywb"  "pywb's filter==FIELD:TEXT is is=FIELD:TEXT here. $condition"      1 query "url=a&filter=!=status:200" sorted.cdxj
-advises "why: a pattern of pywb" "pywb's filter=~FIELD:PATTERN has no counterpart here: has=FIELD:TEXT finds a part of a value. $condition" \
+advises "why: a pattern of pywb" "pywb's filter=~FIELD:PATTERN is for warcdx-gateway: has=FIELD:TEXT finds a part of a value. $condition" \
     1 query "url=a&filter=~status:2.." sorted.cdxj
 advises "why: another output"       "output is text, json or cdxj. docs/RECIPES.md makes CSV of json."   1 query "url=a&output=csv" sorted.cdxj
 advises "why: a home folder in quotes" "A shell replaces ~ outside of quotes alone: No such file or directory (os error 2)" 3 list \~/a.warc
 advises "why: a space behind a name" "Its name ends with a space: No such file or directory (os error 2)" 3 list "same.warc "
 advises "why: a pattern without a file" "Its name is a pattern that no file matches: No such file or directory (os error 2)" 3 list 'missing-*.warc'
 advises "why: a URL as a file" "Its name is a URL, and only files are read: No such file or directory (os error 2)" 3 list http://example.com/a.warc
-advises "why: a query in two arguments" "A query is one argument, with & between its parameters."       3 query url=a fl=urlkey
+part="It is a part of a query, which is one argument with & between its parameters. serve reads queries from standard input."
+advises "why: a query in two arguments" "$part"                                                         3 query url=a fl=urlkey
+advises "why: a query for serve"    "$part"                                                             3 serve url=a sorted.cdxj
 advises "why: the last captures"    "limit is a number from 1 to 1000000. warcdx-gateway takes limit=-5 too, for the last five." 1 query "url=a&limit=-5" sorted.cdxj
+advises "why: another collapse"     "collapse is urlkey, timestamp, or timestamp:N with N from 1 to 14. warcdx-gateway takes other fields too." 1 query "url=a&collapse=digest" sorted.cdxj
+advises "why: an empty url"         "'url' is empty. url isn't a URL, or not one of the web where matchType is host or domain. A % is written as %25, a & as %26. \
+key=&matchType=prefix selects all captures." 1 query "limit=1&url=" sorted.cdxj
 advises "why: a date with dashes"   "from and to are 1 to 14 digits without - and :, such as 2016 or 20160919172024." 1 query "url=a&from=2016-09-19" sorted.cdxj
 advises "why: no url"               "A query has a url or a key, such as url=example.com."              1 query "" sorted.cdxj
 

@@ -200,6 +200,15 @@ sees "two folders" "$(< response.cdxj)" "$fault" 1 index response.warc folder/re
 row "\`NoRecord\`"
 sees "inside a record" "" "warcdx: wget.warc: NoRecord" 1 get 1 wget.warc
 
+row "\`index\` writes nothing, with exit status 0"
+sed 's/^WARC-Type: response/WARC-Type: conversion/' response.warc > texts.warc
+sees "a conversion" "" "" 0 index texts.warc
+sees "its type" "0 266 conversion" "" 0 list texts.warc
+count_conversions() {
+    "$program" index --types conversion texts.warc | wc --lines
+}
+prints "with its type" 1 count_conversions
+
 row "\`index\` is slow on a network disk"
 mkdir disk
 cp wget.warc disk

@@ -207,7 +207,6 @@ rows_of_refusals Host BadBody "BadPage BadSort BadQuery" "TooMany TooLarge" "Too
 row "\`the old rules stay in use\` on standard error"
 row "\`the old settings stay in use\` on standard error"
 row "\`the access log stays the one of before\` on standard error"
-row "\`a process has no room for its counts, which are lost\` on standard error"
 row "\`a worker can't be started:\` on standard error"
 row "\`This capture can't be shown.\`, with status 451"
 row "\`The index doesn't fit the archive.\`, with status 502"

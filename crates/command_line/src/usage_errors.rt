@@ -23,7 +23,13 @@ const TYPES_RULE: &str =
 
 const LENGTH_RULE: &str = "a length is 1 to 19 digits, below 2^63";
 
-const OFFSET_RULE: &str = "an offset is 1 to 19 digits, below 2^63, and precedes the archive";
+const OFFSET: &str = "<OFFSET>";
+
+const OFFSET_RULE: &str =
+    "an offset is 1 to 19 digits, below 2^63, and precedes the archive; warcdx-fetch takes a URL";
+
+const COMMANDS: &str =
+    "the commands are list, verify, index, merge, check, query, pages, serve, get and scan";
 
 /// Returns the fault for clap's error over these arguments, with its text or one that says more.
 pub fn fault_of(alloc: Global, words: &[String], error: &Error) -> WordsFault
@@ -43,14 +49,16 @@ pub fn fault_of(alloc: Global, words: &[String], error: &Error) -> WordsFault
     }
 }
 
-/// Returns the usage error for a first argument that isn't a command. `text` is clap's, which suggests a similar one.
+/// Returns the usage error for a first argument that isn't a command. `text` is clap's, which suggests a similar one if
+/// there is one.
 fn no_command(alloc: Global, words: &[String], text: String) -> WordsFault
     ensures { IsUsage result }
 {
     let word = first_word(words);
     match command_tip(word) {
         Some(tip) => with_tip(alloc, "unrecognized subcommand", word, tip),
-        None => WordsFault::Usage(text),
+        None if text.contains("similar subcommand") => WordsFault::Usage(text),
+        None => with_tip(alloc, "unrecognized subcommand", word, COMMANDS),
     }
 }
 
@@ -104,6 +112,12 @@ fn no_argument(alloc: Global, words: &[String], text: String) -> WordsFault
             alloc,
             &text,
             "a query precedes the indexes, as in 'query url=example.com INDEX'",
+        ),
+        [command, file] if command.as_str() == "get" && read_offset(file).is_none() => invalid(
+            alloc,
+            file,
+            OFFSET,
+            OFFSET_RULE,
         ),
         [command, _file] if takes_sizes(command) => with_more(
             alloc,
@@ -159,10 +173,19 @@ fn with_tip(alloc: Global, what: &str, word: &str, tip: &str) -> WordsFault
     ))
 }
 
+/// Returns what to do about an option, which may have a value behind `=`.
 fn tip_for(option: &str) -> &'static str {
-    if has_value(option) {
-        "an option and its value are two arguments, as '--types response'"
-    } else if option.starts_with("--type") {
+    match option.split_once('=') {
+        Some(("--types" | "--name" | "--length", _value)) => {
+            "an option and its value are two arguments, as '--types response'"
+        }
+        Some((name, _value)) => tip_for_name(name),
+        None => tip_for_name(option),
+    }
+}
+
+fn tip_for_name(option: &str) -> &'static str {
+    if option.starts_with("--type") {
         "'--types TYPES' stands once, directly after 'index' or 'scan'"
     } else if option.starts_with("--length") {
         "'--length LENGTH' stands once, directly after 'get'"
@@ -170,13 +193,15 @@ fn tip_for(option: &str) -> &'static str {
         "'--name NAME' stands once, directly after 'index', 'scan' or their '--types TYPES'"
     } else if option == "--version" || option == "-V" {
         "'--version' is the only argument"
-    } else if option == "-o" || option == "--output" {
+    } else if option == "-o" || option.starts_with("--out") {
         "the output is standard output: write '> FILE' behind the command"
     } else if matches!(option, "-j" | "--jobs" | "-r" | "--recursive") {
         "'warcdx-update' indexes folders, several archives at a time"
     } else if matches!(option, "-s" | "--sort") {
         "'index' and 'merge' write sorted lines"
-    } else if matches!(option, "-q" | "--quiet" | "-v" | "--verbose") {
+    } else if option == "-v" || option == "--verbose" {
+        "no option prints more; '-V' as the only argument prints the version"
+    } else if option == "-q" || option == "--quiet" {
         "standard error has faults alone: write '2> FILE' behind the command"
     } else if matches!(option, "--json" | "--cdxj" | "--cdx" | "--format") {
         "'index' writes CDXJ, and a query with 'output=json' JSON"
@@ -188,6 +213,8 @@ fn tip_for(option: &str) -> &'static str {
         "a command is written without '-', as in 'list FILE'"
     } else if is_negative(option) {
         "an offset, a length and a size are numbers without '-'"
+    } else if option == "--payload" {
+        "warcdx-fetch writes the body of a page, by its URL"
     } else if option.starts_with("--offset") {
         "an offset is written alone, as in 'get OFFSET FILE'"
     } else {
@@ -205,6 +232,7 @@ fn is_of_query(option: &str) -> bool {
             | "--limit"
             | "-n"
             | "--filter"
+            | "-f"
             | "--fl"
             | "--fields"
             | "--match-type"
@@ -223,6 +251,7 @@ fn is_command(option: &str) -> bool {
             | "--merge"
             | "--check"
             | "--query"
+            | "--pages"
             | "--serve"
             | "--scan"
     )
@@ -230,13 +259,6 @@ fn is_command(option: &str) -> bool {
 
 fn is_negative(option: &str) -> bool {
     option.bytes().skip(1).all(|byte| byte.is_ascii_digit())
-}
-
-/// Returns `true` for an option that takes a value and has it behind `=`.
-fn has_value(option: &str) -> bool {
-    option.starts_with("--types=")
-        || option.starts_with("--name=")
-        || option.starts_with("--length=")
 }
 
 /// Returns the usage error for types, sizes, a length or an offset. clap accepts any argument for them; the texts are in its
@@ -276,7 +298,7 @@ fn no_place(alloc: Global, matches: &ArgMatches) -> WordsFault
         ),
         _ => {
             let word = operand_word(matches, "offset").unwrap_or("");
-            invalid(alloc, word, "<OFFSET>", OFFSET_RULE)
+            invalid(alloc, word, OFFSET, OFFSET_RULE)
         }
     }
 }

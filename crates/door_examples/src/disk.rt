@@ -9,7 +9,9 @@ ghost use Rattle.command_line.specs.Commands.{view};
 ghost use Rattle.door_examples.specs.Archives.{a_archive};
 ghost use Rattle.door_examples.specs.Shelf.{WritesOfShelf, query_line};
 ghost use Rattle.door_examples.specs.Texts.{a_line};
+ghost use Rattle.index_core.specs.OneText.{HasFront};
 ghost use Rattle.tasks.specs.OneText.{indexes_of};
+ghost use Rattle.tasks.specs.OpeningLaws.{OpensAllFirst};
 
 use cdxj_core::index_has_one_list_of_members;
 use command_line::Task;
@@ -25,7 +27,9 @@ use scan_core::scan_writes_one_text;
 use std::alloc::Global;
 use std::io::Cursor;
 use std::rt::Runtime;
-use tasks::{Console, Opener, Outcome, done_tasks_write_one_text, perform};
+use tasks::{
+    Console, Opener, Outcome, done_tasks_write_one_text, failed_tasks_leave_a_front, perform,
+};
 use warc_core::laws::one_reading;
 
 /// A disk: the file of a name, once it is opened, is a stream of its bytes, and is read at any
@@ -146,7 +150,8 @@ pub fn perform_on_disk<R: Runtime + AllocGlobal, D: Disk, O: Output>(
 }
 
 /// Performs a task over the files of two disks, and again with another output. If both end as done,
-/// and the files that the task reads as indexes are indexes, both have written the same bytes.
+/// and the files that the task reads as indexes are indexes, both have written the same bytes. If
+/// only the first does, of a task that opens all its files first, the second has written a front of these.
 pub fn perform_twice<R: Runtime + AllocGlobal, D: Disk, O: Output>(
     console: &Console<R>,
     files: &DiskFiles<'_, D>,
@@ -154,14 +159,20 @@ pub fn perform_twice<R: Runtime + AllocGlobal, D: Disk, O: Output>(
     out: &mut O,
     other: &mut O,
 ) -> (Outcome, Outcome)
-    ensures { AllByRecursion (λ name. (members : List Member)
+    ensures same { AllByRecursion (λ name. (members : List Member)
         × IsIndex LINE_LIMIT (D.bytes_of files.now.indexes.now name) members)
         (indexes_of (view task.now))
         → result.0 ≡ Outcome.Done → result.1 ≡ Outcome.Done
         → (before : List ℕ) → O.written out.old ≡ Some before → O.written other.old ≡ Some before
         → O.written out.new ≡ O.written other.new }
+    ensures front { AllByRecursion (λ name. (members : List Member)
+        × IsIndex LINE_LIMIT (D.bytes_of files.now.indexes.now name) members)
+        (indexes_of (view task.now)) → OpensAllFirst (view task.now) → result.0 ≡ Outcome.Done
+        → (before : List ℕ) → O.written out.old ≡ Some before → O.written other.old ≡ Some before
+        → HasFront before (O.written out.new) (O.written other.new) }
 {
     done_tasks_write_one_text::<DiskFiles<'_, D>, O>(files);
+    failed_tasks_leave_a_front::<DiskFiles<'_, D>, O>(files);
     let first = perform(console, files, task, out);
     (first, perform(console, files, task, other))
 }

@@ -10,21 +10,9 @@ use query_core::{AnswerFault, QueryFault};
 use std::rt::Runtime;
 use warc_core::Cause;
 
-const BAD_LINE: &str = "The line that begins there isn't one of a CDXJ index.";
-
 const BYTE_ORDER_MARK: &str = "It begins with a byte order mark: remove its first 3 bytes.";
 
-const ZSTANDARD: &str = "It is compressed by zstd: decompress it first.";
-
-const BZIP2: &str = "It is compressed by bzip2: decompress it first.";
-
-const XZ: &str = "It is compressed by xz: decompress it first.";
-
-const UTF_16: &str = "It is a text in UTF-16: iconv -f UTF-16 -t UTF-8 converts it.";
-
-const ARC: &str = "It is an ARC file: convert it to a WARC file first.";
-
-const CDX: &str = "It is a CDX file: warcdx-cdx from FILE | LC_ALL=C sort makes an index of it.";
+const FOLDER: &str = "It is a folder: warcdx-update indexes the archives of a folder.";
 
 const MANIFEST: &str =
     "It is the list of an index of warcdx-update, of which current/*.cdxj are the indexes.";
@@ -38,7 +26,9 @@ pub fn unopened_advice(name: &str) -> Option<&'static str> {
     if name == "-" {
         Some(NO_PIPE)
     } else if is_parameter_with_value(name) {
-        Some("A query is one argument, with & between its parameters.")
+        Some(
+            "It is a part of a query, which is one argument with & between its parameters. serve reads queries from standard input.",
+        )
     } else {
         None
     }
@@ -85,7 +75,7 @@ pub fn pasted_advice(name: &str, fault: QueryFault) -> Option<&'static str> {
             "pywb's filter==FIELD:TEXT is is=FIELD:TEXT here.",
         ),
         QueryFault::BadFilter if name.starts_with('~') => Some(
-            "pywb's filter=~FIELD:PATTERN has no counterpart here: has=FIELD:TEXT finds a part of a value.",
+            "pywb's filter=~FIELD:PATTERN is for warcdx-gateway: has=FIELD:TEXT finds a part of a value.",
         ),
         _ => None,
     }
@@ -112,14 +102,14 @@ pub fn query_advice(fault: QueryFault) -> &'static str {
         }
         QueryFault::NotLiteral => {
             "filter takes a literal text, without \\ ^ $ . | ? * + ( ) [ ] { }. For a part of a value, \
-             write has=FIELD:TEXT, and for a choice of values a query for each."
+             write has=FIELD:TEXT, and for a choice of values a query for each. warcdx-gateway takes patterns."
         }
         QueryFault::BadLimit => {
             "limit is a number from 1 to 1000000. warcdx-gateway takes limit=-5 too, for the last five."
         }
         QueryFault::BadResume => "resumeKey is a key that a page has printed, as it was printed.",
         QueryFault::BadField => {
-            "fl is a list, with ',' between, of urlkey, timestamp, original, mimetype, statuscode, digest, length, offset \
+            "fl is a list, with ',' and no space between, of urlkey, timestamp, original, mimetype, statuscode, digest, length, offset \
              and filename."
         }
         QueryFault::BadOutput => "output is text, json or cdxj. docs/RECIPES.md makes CSV of json.",
@@ -131,8 +121,9 @@ pub fn query_advice(fault: QueryFault) -> &'static str {
              %25, a & as %26. key=&matchType=prefix selects all captures."
         }
         QueryFault::QueryTooLong => "A query has at most 65536 bytes.",
-        QueryFault::BadCollapse =>
-            "collapse is urlkey, timestamp, or timestamp:N with N from 1 to 14.",
+        QueryFault::BadCollapse => {
+            "collapse is urlkey, timestamp, or timestamp:N with N from 1 to 14. warcdx-gateway takes other fields too."
+        }
     }
 }
 
@@ -144,9 +135,7 @@ pub fn archive_advice<R: Runtime>(
 ) -> &'static str {
     match fault {
         CaptureFault::Archive(fault) => match fault.cause {
-            Cause::Read if is_folder(console.rt, name) => {
-                "It is a folder: warcdx-update indexes the archives of a folder."
-            }
+            Cause::Read if is_folder(console.rt, name) => FOLDER,
             cause if is_unpacked(console, name) => member_advice(cause),
             Cause::Version => no_archive_advice(file_kind(console.rt, name)),
             cause => cause_advice(cause),
@@ -188,15 +177,23 @@ fn no_archive_advice(kind: FileKind) -> &'static str {
         FileKind::Zip => {
             "It is a ZIP file, as a WACZ file is: unpack it, and index the WARC files in it."
         }
-        FileKind::Zstandard => ZSTANDARD,
-        FileKind::Bzip2 => BZIP2,
-        FileKind::Xz => XZ,
-        FileKind::Utf16 => UTF_16,
+        FileKind::Zstandard => "It is compressed by zstd: decompress it first.",
+        FileKind::ZstandardWithDictionary => {
+            "It is compressed by zstd with the dictionary in its first frame: decompress it by zstd -D first."
+        }
+        FileKind::Bzip2 => "It is compressed by bzip2: decompress it first.",
+        FileKind::Xz => "It is compressed by xz: decompress it first.",
+        FileKind::Utf16 => "It is a text in UTF-16: iconv -f UTF-16 -t UTF-8 converts it.",
+        FileKind::OldWarc => {
+            "It is a WARC file of a version before 1.0: convert it to WARC/1.0 first."
+        }
+        FileKind::Har => "It is a HAR file: convert it to a WARC file first, by har2warc.",
         FileKind::WarcWithLineFeeds => {
             "Its first line ends with LF alone: a WARC file has CR LF after each line of a header."
         }
-        FileKind::Arc => ARC,
-        FileKind::Cdx => CDX,
+        FileKind::Arc => "It is an ARC file: convert it to a WARC file first.",
+        FileKind::Cdx =>
+            "It is a CDX file: warcdx-cdx from FILE | LC_ALL=C sort makes an index of it.",
         FileKind::ByteOrderMark => BYTE_ORDER_MARK,
         FileKind::Index | FileKind::IndexWithTabs => {
             "It seems to be an index: warcdx query reads indexes."
@@ -250,6 +247,7 @@ pub fn index_advice<R: Runtime>(
 ) -> Option<&'static str> {
     match fault {
         IndexFault::Capture(fault) => Some(archive_advice(console, name, fault)),
+        IndexFault::BadName if name.ends_with('/') => Some(FOLDER),
         IndexFault::BadName => Some("The name of an archive's file has 1 to 255 bytes."),
         IndexFault::DuplicateName => Some(
             "Another archive has this file name: rename one of them.",
@@ -272,26 +270,17 @@ pub fn answer_advice<R: Runtime>(rt: &R, name: &str, fault: AnswerFault) -> Opti
     }
 }
 
-/// Returns what a file is that has a line of no index, and what to do.
+/// Returns what a file is that has a line of no index, and what to do. If it is no archive either, `no_archive_advice`
+/// says so.
 fn no_index_advice(kind: FileKind) -> &'static str {
     match kind {
         FileKind::Gzip => {
-            "It is compressed by gzip: decompress an index. Of an archive, warcdx-gz index makes one."
+            "It is compressed by gzip: decompress an index. Of an archive, warcdx-gz index makes one, and verify checks it."
         }
-        FileKind::Zip => {
-            "It is a ZIP file, as a WACZ file is: unpack it, and index the WARC files in it."
-        }
-        FileKind::Zstandard => ZSTANDARD,
-        FileKind::Bzip2 => BZIP2,
-        FileKind::Xz => XZ,
         FileKind::Warc | FileKind::WarcWithLineFeeds => {
-            "It is a WARC file: warcdx index makes an index of it."
+            "It is a WARC file: warcdx index makes an index of it, and warcdx verify checks it."
         }
-        FileKind::Arc => ARC,
-        FileKind::Cdx => CDX,
         FileKind::Markup => "It seems to be an HTML or XML file, and not an index.",
-        FileKind::ByteOrderMark => BYTE_ORDER_MARK,
-        FileKind::Utf16 => UTF_16,
         FileKind::Objects => {
             "Its first line is a JSON object alone: in an index, a URL key and a timestamp precede it."
         }
@@ -301,7 +290,9 @@ fn no_index_advice(kind: FileKind) -> &'static str {
         FileKind::IndexWithTabs => {
             "In an index a space, and no tab, follows the URL key and the timestamp."
         }
-        FileKind::Index | FileKind::Other => BAD_LINE,
+        FileKind::Index | FileKind::Other =>
+            "The line that begins there isn't one of a CDXJ index.",
+        kind => no_archive_advice(kind),
     }
 }
 

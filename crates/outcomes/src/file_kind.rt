@@ -15,6 +15,8 @@ pub enum FileKind {
     Zip,
     /// A file that zstd has compressed (RFC 8878, section 3.1.1).
     Zstandard,
+    /// A file that zstd has compressed with the dictionary in its first frame, as a `.warc.zst` is.
+    ZstandardWithDictionary,
     /// A file that bzip2 has compressed.
     Bzip2,
     /// A file that xz has compressed.
@@ -23,6 +25,10 @@ pub enum FileKind {
     Warc,
     /// A WARC file whose first line ends with LF alone.
     WarcWithLineFeeds,
+    /// A WARC file of a version before 1.0.
+    OldWarc,
+    /// A HAR file, in which a browser saves what it has fetched.
+    Har,
     /// An ARC file, the format before WARC.
     Arc,
     /// A CDX file with a header.
@@ -46,20 +52,24 @@ pub enum FileKind {
 }
 
 /// With what the files of a kind begin.
-const FRONTS: [(&[u8], FileKind); 13] = [
+const FRONTS: [(&[u8], FileKind); 17] = [
     (b"\x1f\x8b", FileKind::Gzip),
     (b"PK\x03\x04", FileKind::Zip),
     (b"\x28\xb5\x2f\xfd", FileKind::Zstandard),
+    (b"\x5d\x2a\x4d\x18", FileKind::ZstandardWithDictionary),
     (b"BZh", FileKind::Bzip2),
     (b"\xfd7zXZ\x00", FileKind::Xz),
     (b" CDX ", FileKind::Cdx),
     (b"\xef\xbb\xbf", FileKind::ByteOrderMark),
     (b"\xff\xfe", FileKind::Utf16),
     (b"\xfe\xff", FileKind::Utf16),
+    (b"{\"log\":", FileKind::Har),
+    (b"{\n  \"log\":", FileKind::Har),
     (b"{", FileKind::Objects),
     (b"!", FileKind::Directive),
     (b"<", FileKind::Markup),
     (b"filedesc:", FileKind::Arc),
+    (b"WARC/0.", FileKind::OldWarc),
 ];
 
 /// Returns the kind of the file of this name. Only a file is opened, because a pipe would be waited
@@ -83,16 +93,16 @@ fn opened_kind<F: Read>(file: &mut F) -> FileKind {
 }
 
 fn kind_of(front: &[u8]) -> FileKind {
+    for (begin, kind) in FRONTS {
+        if front.starts_with(begin) {
+            return kind;
+        }
+    }
     if front.starts_with(b"WARC/") {
         return match front.get(8) {
             Some(b'\n') => FileKind::WarcWithLineFeeds,
             _ => FileKind::Warc,
         };
-    }
-    for (begin, kind) in FRONTS {
-        if front.starts_with(begin) {
-            return kind;
-        }
     }
     match str::from_utf8(front) {
         Ok(text) => kind_of_text(text),

@@ -18,6 +18,7 @@ pub fn refused_part(text: &str, fault: QueryFault) -> Option<RefusedPart<'_>> {
         QueryFault::RepeatedParameter => part(repeated_parameter(text), "is given twice"),
         QueryFault::BadField => field_part(unknown_field(text)),
         QueryFault::BadFilter => field_part(unknown_condition(text)),
+        QueryFault::BadUrl => part(empty_url(text), "is empty"),
         _ => None,
     }
 }
@@ -34,12 +35,26 @@ fn part<'a>(name: Option<&'a str>, what: &'static str) -> Option<RefusedPart<'a>
     }
 }
 
-/// Returns a part that is no parameter, and what to write if it is a field.
+/// Returns a part that is no parameter, and what to write if it is a field, or was meant as a parameter of another
+/// spelling or program.
 fn parameter_part(name: Option<&str>) -> Option<RefusedPart<'_>> {
-    match name {
-        Some(field) if is_field(field) => part(name, "is a field, for filter=FIELD:TEXT"),
-        _ => part(name, "isn't a parameter"),
-    }
+    let what = match name {
+        Some("matchtype") => "isn't a parameter, and matchType is",
+        Some("resumekey") => "isn't a parameter, and resumeKey is",
+        Some("showresumekey") => "isn't a parameter, and showResumeKey is",
+        Some("fields") => "isn't a parameter, and fl is",
+        Some("status") => "isn't a parameter, and filter=statuscode:TEXT is",
+        Some("mime") => "isn't a parameter, and filter=mimetype:TEXT is",
+        Some("page" | "pageSize" | "showNumPages") => {
+            "is for warcdx-gateway: warcdx pages writes all pages"
+        }
+        Some("sort" | "reverse" | "closest") => {
+            "is for warcdx-gateway: the order here is that of the index"
+        }
+        Some(field) if is_field(field) => "is a field, for filter=FIELD:TEXT",
+        _ => "isn't a parameter",
+    };
+    part(name, what)
 }
 
 /// Returns a part that is no field, and which field was meant if it is a member of a line's object.
@@ -57,6 +72,12 @@ fn unknown_parameter(text: &str) -> Option<&str> {
     text.split('&')
         .map(parameter_name)
         .find(|name| is_unknown(name))
+}
+
+fn empty_url(text: &str) -> Option<&str> {
+    text.split('&')
+        .find(|piece| *piece == "url=")
+        .map(parameter_name)
 }
 
 /// Returns the first name of a parameter that stands twice, and may not.

@@ -1,6 +1,13 @@
 -- A task whose files all opens doesn't end as one of which a file can't be opened.
-use Rattle.std.proofs.Common.{arith, ◌≡◌, ℕ, List, [], ◌∷◌, Option, sym}
-use Rattle.command_line.specs.Commands.{Meaning, ToCheck, ToGet, ToIndex, ToList, ToScan, ToVerify}
+use Rattle.std.proofs.Common.{arith, ◌≡◌, ℕ, ◌<◌, List, [], ◌∷◌, Option, Result, Err, length, map, sym, inl, inr}
+use Rattle.std.proofs.lemmas.List.{length-map}
+use Rattle.command_line.specs.Commands.{Meaning, ToCheck, ToGet, ToIndex, ToList, ToMerge, ToPages, ToQuery, ToScan}
+use Rattle.command_line.specs.Commands.{ToServe, ToVerify}
+use Rattle.query_core.specs.IndexFaults.{IsAnswerFaultOf}
+use Rattle.query_core.specs.Refusals.{Refuses, too_many}
+use Rattle.query_core.specs.declared.fault.AnswerFault.{AnswerFault}
+use Rattle.query_core.specs.declared.fault.AnswerFault.TheVariants as answers
+use Rattle.query_core.specs.declared.merging.TheConstants.{SOURCES_LIMIT}
 use Rattle.index_core.specs.Indexing.{Held}
 use Rattle.outcomes.specs.Outcome.{worse_of}
 use Rattle.outcomes.specs.declared.outcome.Outcome.{Outcome}
@@ -8,9 +15,18 @@ use Rattle.outcomes.specs.declared.outcome.Outcome.TheVariants as outcomes
 use Rattle.tasks.specs.declared.reports.ArchiveReport.{ArchiveReport}
 use Rattle.tasks.specs.Checks.{ChecksOne}
 use Rattle.tasks.specs.Each.{GoesOver}
-use Rattle.tasks.specs.Indexing.{AddsOne}
+use Rattle.archives.specs.State.{ToldArchive}
+use Rattle.capture_core.specs.Types.{includes}
+use Rattle.scan_core.specs.Scanning.{IsScanFault}
+use Rattle.scan_core.specs.declared.fault.ScanFault.{ScanFault}
+use Rattle.scan_core.specs.declared.fault.ScanFault.TheVariants as scans
+use Rattle.std.specs.Prelude.{Bool, IfErr}
+use Rattle.tasks.specs.Indexing.{AddsOne, archive_name}
+use Rattle.tasks.specs.Scanning.{scan_outcome}
+use Rattle.warc_core.specs.Kind.{Kind}
 use Rattle.std.specs.List.{Any}
 use Rattle.query_text.specs.declared.fault.QueryFault.{QueryFault}
+use Rattle.tasks.specs.OneText.{IsNoConversation, indexes_of}
 use Rattle.tasks.specs.OpeningLaws.{AllOpen, OpensAllFirst}
 use Rattle.tasks.specs.Performing.{Openings, Performs}
 use Rattle.tasks.specs.Reports.{ReportsOnOne}
@@ -57,11 +73,25 @@ module _ (files : Openings) (opens : AllOpen files) (before after : Option (List
 
 -- ---- what is refused has written nothing
 
+-- so many indexes are refused
+refuses : {A : Type 0} (count : ℕ) (answer : Result A AnswerFault) (unchanged : Type 0) → SOURCES_LIMIT < count
+    → Refuses (too_many count) answer unchanged → (answer ≡ Err answers.TooManySources) × unchanged
+refuses count answer unchanged many refused = grind arith
+
 module _ (files : Openings) (before after : Option (List ℕ)) (unchanged : Type 0) (keeps : unchanged → after ≡ before) where
   pub unopened_keeps : (task : Meaning) → OpensAllFirst task → Performs files before after unchanged outcomes.CannotOpen task
       → after ≡ before
   unfolding Performs
   unopened_keeps task first h = grind arith
+
+  pub many_keep : (outcome : Outcome) (task : Meaning) → OpensAllFirst task → SOURCES_LIMIT < length (indexes_of task)
+      → Performs files before after unchanged outcome task → (outcome ≡ outcomes.Done → ⊥) × (after ≡ before)
+  unfolding Performs
+  many_keep outcome (ToMerge names) first many h = grind (arith, length-map, refuses)
+  many_keep outcome (ToQuery text names) first many h = grind (arith, length-map, refuses)
+  many_keep outcome (ToServe names) first many h = grind (arith, length-map, refuses)
+  many_keep outcome (ToPages sizes text names) first many h = grind (arith, length-map)
+  many_keep outcome task first many h = grind arith
 
   module _ (fault : QueryFault) where
     report_reads_none : (report : ArchiveReport) (count : ℕ) (state : Option (List ℕ)) (name : List ℕ)
@@ -85,3 +115,33 @@ module _ (files : Openings) (before after : Option (List ℕ)) (unchanged : Type
     refused_keeps (ToIndex types input names) h = grind (arith, goes_elsewhere, add_reads_none)
     refused_keeps (ToCheck names) h = grind (arith, goes_elsewhere, check_reads_none)
     refused_keeps task h = grind arith
+
+-- ---- lines that are named
+
+-- a scan names no line
+scan_names_none : (types : Kind → Bool) (names : List (List ℕ)) (inputs : List ToldArchive) (sizes text : List ℕ)
+    (fault : AnswerFault) → IsScanFault types names inputs sizes text (scans.Answer fault) → IsAnswerFaultOf [] fault
+unfolding IsScanFault
+scan_names_none types names inputs sizes text fault h = grind arith
+
+scan_at_fault : (types : Kind → Bool) (names : List (List ℕ)) (inputs : List ToldArchive) (sizes text : List ℕ)
+    (answer : Result ℕ ScanFault) (fault : AnswerFault) → outcomes.Answer fault ≡ scan_outcome answer
+    → IfErr answer (IsScanFault types names inputs sizes text) → IsAnswerFaultOf [] fault
+scan_at_fault types names inputs sizes text (Err (scans.Answer other)) fault e h =
+    let same : fault ≡ other = grind arith in rw same (scan_names_none types names inputs sizes text other h)
+scan_at_fault types names inputs sizes text answer fault e h = absurd (grind arith)
+
+module _ (files : Openings) (before after : Option (List ℕ)) (unchanged : Type 0) (fault : AnswerFault) where
+  pub named_at_fault : (task : Meaning) → OpensAllFirst task → IsNoConversation task
+      → Performs files before after unchanged (outcomes.Answer fault) task
+      → IsAnswerFaultOf (map files.index_of (indexes_of task)) fault
+  unfolding Performs
+  named_at_fault (ToMerge names) first alone h = grind arith
+  named_at_fault (ToQuery text names) first alone h = grind arith
+  named_at_fault (ToPages sizes text names) first alone h = grind arith
+  named_at_fault (ToScan types input sizes text names) first alone (inl (query, asked, inl (told, tells, scan))) =
+      scan_at_fault (includes types) (map (archive_name input) names) told sizes text scan.answer fault scan.outcome_is
+      scan.fault
+  named_at_fault (ToScan types input sizes text names) first alone (inl (query, asked, inr unopened)) = absurd unopened.0
+  named_at_fault (ToScan types input sizes text names) first alone (inr refused) = absurd refused.0
+  named_at_fault task first alone h = grind arith

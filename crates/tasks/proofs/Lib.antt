@@ -8,3 +8,4 @@ pub mod WriteCounts
 pub mod FailedNames
 pub mod AllOpenLemmas
 pub mod OneTextLemmas
+pub mod FrontLemmas

@@ -227,7 +227,7 @@ module _ (index_of : List ℕ → Option (List ℕ)) (Failed : List ℕ → Type
 -- ---- queries, merges and pages of indexes
 
 -- the bytes of indexes, and their lines
-known_indexes : (index_of : List ℕ → Option (List ℕ)) (names : List (List ℕ))
+pub known_indexes : (index_of : List ℕ → Option (List ℕ)) (names : List (List ℕ))
     → AllByRecursion (λ name. IsToldIndex (index_of name)) names
     → (texts : List (List ℕ)) × (indexes : List (List Member)) × Known (map index_of names) texts
     × AllZip (IsIndex LINE_LIMIT) texts indexes
@@ -282,7 +282,7 @@ module _ (told : List (Option (List ℕ))) (texts : List (List ℕ)) (indexes : 
 -- ---- the record at an offset
 
 module _ (record_law : FetchesOneText) (length_law : FetchesAtOneText) (member_law : FetchesMemberOneText) where
-  fetches_one : (packing : Packing) (len : Option ℕ) (offset : ℕ) (archive before : List ℕ) (n m : ℕ)
+  pub fetches_one : (packing : Packing) (len : Option ℕ) (offset : ℕ) (archive before : List ℕ) (n m : ℕ)
       (this that : Option (List ℕ)) → FetchesIn packing len offset (Some archive) (Ok n) (Some before) this
       → FetchesIn packing len offset (Some archive) (Ok m) (Some before) that → AreOne this that
   fetches_one Plain None offset archive before n m this that a b = are_one before a.0 this that (grind arith)
@@ -313,7 +313,7 @@ module _ (record_law : FetchesOneText) (length_law : FetchesAtOneText) (member_l
 
 -- ---- the pages of archives
 
-told_one : (Tells : List ℕ → ToldArchive → Type 0) (names : List (List ℕ)) (told other : List ToldArchive)
+pub told_one : (Tells : List ℕ → ToldArchive → Type 0) (names : List (List ℕ)) (told other : List ToldArchive)
     → AllByRecursion (λ name. IsOneArchive (Tells name)) names → AllZip Tells names told → AllZip Tells names other
     → (told ≡ other) × (archives : List (List ℕ)) × Known (map (λ input. input.bytes) told) archives
 told_one Tells [] [] [] known a b = (refl, [], tt)
@@ -357,11 +357,11 @@ pub record CallsAreOne : Type 0 where
   pub scans : ScanIsOne
 
 -- what was done by a task that didn't end where files are opened, or where its query is read
-opened : {A B : Type 0} → A ⊎ (⊥ × B) → A
+pub opened : {A B : Type 0} → A ⊎ (⊥ × B) → A
 opened (inl a) = a
 opened (inr (never, b)) = absurd never
 
-same_query : (text : List ℕ) (q r : QueryValue) → query_of QUERY_LIMIT text ≡ Ok q → query_of QUERY_LIMIT text ≡ Ok r
+pub same_query : (text : List ℕ) (q r : QueryValue) → query_of QUERY_LIMIT text ≡ Ok q → query_of QUERY_LIMIT text ≡ Ok r
     → r ≡ q
 same_query text q r e f = let same = sym f ∙ e in grind arith
 
@@ -436,7 +436,7 @@ module _ (laws : CallsAreOne) (files : Openings) (before : List ℕ) (this that 
 
 module _ {O : Type 0} (written flushed : O → Option (List ℕ)) (failures : O → ℕ) where
   -- but for a conversation, a task begins at the output as it is
-  begins_there : (task : Meaning) (old begun : O) → IsNoConversation task
+  pub begins_there : (task : Meaning) (old begun : O) → IsNoConversation task
       → Begins written flushed failures task old begun → begun ≡ old
   begins_there task old begun alone b = grind arith
 

@@ -8,6 +8,7 @@ use Rattle.archives.specs.Packing.{Packing}
 use Rattle.archives.specs.State.{ToldArchive}
 use Rattle.command_line.specs.Commands.{Meaning, ToCheck, ToGet, ToIndex, ToList, ToMerge, ToPages, ToQuery, ToScan}
 use Rattle.command_line.specs.Commands.{ToServe, ToVerify}
+use Rattle.outcomes.specs.declared.outcome.Outcome.{Outcome}
 use Rattle.outcomes.specs.declared.outcome.Outcome.TheVariants as outcomes
 use Rattle.tasks.specs.Performing.{Openings, Performs}
 
@@ -63,7 +64,10 @@ abbrev pub IsNoConversation : Meaning → Type 0
 IsNoConversation (ToServe names) = ⊥
 IsNoConversation task = ⊤
 
--- the task ended as done, with an output whose bytes were known
+-- the task ended with this outcome, and the bytes of its output were known before
+abbrev pub EndsAs : {O : Type 0} → Openings → Meaning → (O → Option (List ℕ)) → List ℕ → Outcome → O → O → Type 0
+EndsAs files task written before outcome old new = (written old ≡ Some before)
+    × Performs files (written old) (written new) (new ≡ old) outcome task
+
 abbrev pub IsDone : {O : Type 0} → Openings → Meaning → (O → Option (List ℕ)) → List ℕ → O → O → Type 0
-IsDone files task written before old new = (written old ≡ Some before)
-    × Performs files (written old) (written new) (new ≡ old) outcomes.Done task
+IsDone files task written before old new = EndsAs files task written before outcomes.Done old new

@@ -24,8 +24,9 @@ mod system;
 pub use crate::buffered::Buffered;
 pub use crate::flush::Flush;
 pub use crate::laws::{
-    done_tasks_write_one_text, exit_status_says_what_was_done, opened_files_are_no_fault,
-    promises_hold_untold, refused_tasks_write_nothing,
+    done_tasks_write_one_text, exit_status_says_what_was_done, failed_tasks_leave_a_front,
+    get_writes_one_record, named_lines_are_at_fault, opened_files_are_no_fault,
+    promises_hold_untold, refused_names_add_nothing, refused_tasks_write_nothing,
 };
 pub use crate::opening::{ArchiveOver, Opener};
 pub use crate::program::{perform, run_on};

@@ -11,7 +11,7 @@ from typing import Optional
 
 from . import dates
 from .counting import Counts
-from .layout import row, table
+from .layout import card, row, table
 from .markup import Child, Markup, element, joined
 from .searching import Search
 
@@ -32,6 +32,11 @@ def years_of(counts: Counts) -> list[int]:
     if found and found[-1] - found[0] < _MOST_GAP:
         return list(range(found[0], found[-1] + 1))
     return found[:MOST_YEARS]
+
+
+def years_card(counts: Counts, search: Optional[Search], chosen: str = "") -> Markup:
+    """Returns the captures of all years, drawn and as a table."""
+    return card("Years", draw_years(counts, search, chosen), years_table(counts, search))
 
 
 def draw_years(counts: Counts, search: Optional[Search], chosen: str = "") -> Markup:

@@ -37,7 +37,7 @@ class Side:
 
     @property
     def when(self) -> str:
-        timestamp = dates.timestamp_of(self.record.head.field("WARC-Date") or "")
+        timestamp = dates.recorded(self.record.head)
         return dates.in_words(timestamp) if timestamp else "no date"
 
 

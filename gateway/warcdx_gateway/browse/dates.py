@@ -3,6 +3,8 @@ import datetime
 import re
 from typing import Optional
 
+from warcdx.record import Head
+
 from ..history import first_moment
 
 MONTHS = (
@@ -24,13 +26,11 @@ def day_of(digits: str) -> Optional[datetime.date]:
 
 def time_of(timestamp: str) -> Optional[datetime.datetime]:
     """Returns the time of a timestamp in UTC, or None if it is no time. A leap second is none."""
-    if not _TIMESTAMP.fullmatch(timestamp):
-        return None
-    month, day, hour, minute, second = (int(timestamp[at : at + 2]) for at in range(4, 14, 2))
     try:
-        return datetime.datetime(int(timestamp[:4]), month, day, hour, minute, second, tzinfo=datetime.timezone.utc)
+        found = datetime.datetime.strptime(timestamp, "%Y%m%d%H%M%S") if _TIMESTAMP.fullmatch(timestamp) else None
     except ValueError:
         return None
+    return found and found.replace(tzinfo=datetime.timezone.utc)
 
 
 def day_in_words(day: datetime.date) -> str:
@@ -58,6 +58,11 @@ def timestamp_of(date: str) -> Optional[str]:
     digits = re.sub(r"\D", "", date.partition(".")[0])
     filled = first_moment(digits)
     return filled if len(digits) >= 4 and _TIMESTAMP.fullmatch(filled) else None
+
+
+def recorded(head: Head) -> Optional[str]:
+    """Returns the timestamp of a record, or None if its WARC-Date is none."""
+    return timestamp_of(head.field("WARC-Date") or "")
 
 
 def digits_of(typed: str) -> str:

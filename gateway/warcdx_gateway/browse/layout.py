@@ -6,7 +6,7 @@ from werkzeug.wrappers import Response
 
 from ..collection import Collection
 from . import dates, responses
-from .markup import Child, Link, Markup, document, element, joined, link
+from .markup import Child, Link, Markup, Value, document, element, joined, link
 from .searching import MATCHES, NotShown, Search
 
 UP = "../../"  # from a page of a collection to the list of collections
@@ -138,6 +138,11 @@ def _document(title: str, content: Markup, up: str) -> bytes:
     footer = element("footer", element("p", "Times are in UTC. Nothing on these pages is fetched from another site."))
     body = element("body", content, footer)
     return document(title, body, Link(up + "browse/style.css"), Link(up + "browse/icon.svg"))
+
+
+def card(words: str, *content: Child, **attributes: Value) -> Markup:
+    """Returns a part of a page with a frame, under a heading."""
+    return element("section", element("h2", words), *content, class_="card", **attributes)
 
 
 def table(caption: Child, names: Mapping[str, str], rows: Child, kind: str = "") -> Markup:

@@ -10,7 +10,7 @@ from ..collection import Collection, Source
 from ..history import Ask, quoted
 from . import dates
 from .counting import count_of_url
-from .layout import row, table
+from .layout import card, row, table
 from .markup import MOST_LINK, Child, Link, Markup, cut, element, followed, joined, link
 from .places import place_of, record_link, text_of
 from .searching import Search
@@ -58,7 +58,7 @@ def _part(ask: Ask, query: str, is_later: bool) -> Part:
 def captures_section(part: Part, search: Search, words: str) -> Markup:
     """Returns the list of captures, in a form that compares the texts of two of them."""
     if not part.captures:
-        return element("section", element("h2", words), element("p", "There are no captures here."), class_="card")
+        return card(words, element("p", "There are no captures here."))
     names = {"time": "Time", "status": "Status", "type": "Type", "size": "Record", "digest": "Digest"}
     can_compare = sum(map(_can_be_picked, part.captures)) > 1
     if can_compare:
@@ -74,7 +74,7 @@ def captures_section(part: Part, search: Search, words: str) -> Markup:
     if can_compare:
         button = element("p", element("button", "Compare the two texts", type="submit"))
         listed = element("form", listed, button, action=Link("compare"), method="get")
-    return element("section", element("h2", words), listed, _further(part, search, "captures"), class_="card", id="list")
+    return card(words, listed, _further(part, search, "captures"), id="list")
 
 
 def _capture_row(names: dict[str, str], capture: Capture, is_same: bool, number: Optional[int]) -> Markup:
@@ -135,7 +135,7 @@ def _picks(capture: Capture, number: int) -> Markup:
 def addresses_section(part: Part, search: Search) -> Markup:
     """Returns the list of addresses, each with its first capture."""
     if not part.captures:
-        return element("section", element("h2", "URLs"), element("p", "There are no URLs here."), class_="card")
+        return card("URLs", element("p", "There are no URLs here."))
     names = {"address": "URL", "count": "Captures", "time": "First capture", "status": "Status", "type": "Type"}
     rows = (
         row(
@@ -148,8 +148,7 @@ def addresses_section(part: Part, search: Search) -> Markup:
         )
         for capture, count in zip(part.captures, part.counts)
     )
-    listed = table("URLs", names, rows, "addresses")
-    return element("section", element("h2", "URLs"), listed, _further(part, search, "search"), class_="card", id="list")
+    return card("URLs", table("URLs", names, rows, "addresses"), _further(part, search, "search"), id="list")
 
 
 def _history(capture: Capture) -> Link:

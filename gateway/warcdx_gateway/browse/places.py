@@ -11,7 +11,7 @@ from warcdx.record import Head
 
 from ..collection import Collection
 from ..history import MOST, Ask, History, before_time, quoted, resumed
-from .dates import timestamp_of
+from .dates import recorded
 from .markup import Link, link
 from .searching import NotShown
 
@@ -21,48 +21,37 @@ _TIMESTAMP = re.compile("[0-9]{14}")
 
 @dataclass(frozen=True)
 class Place:
-    """The file name of an archive, the offset of a record in bytes, and the index line with both.
-
-    The line is found by its timestamp and its URL key, or a URL with this key.
-    """
+    """The file name of an archive, the offset of a record in bytes, and the timestamp and URL key of the index line with both."""
 
     filename: str
     offset: int
     timestamp: str
     key: str
-    url: str = ""
 
     @classmethod
     def of(cls, query: Mapping[str, str]) -> "Place":
         """Returns the place of the query of a link. Raises NotShown."""
-        given = (query.get(name, "") for name in ("archive", "offset", "timestamp", "key", "url"))
-        return cls._of(*given)
+        return cls._of(*(query.get(name, "") for name in ("offset", "timestamp", "key", "archive")))
 
     @classmethod
     def of_text(cls, text: str) -> "Place":
         """Returns the place of `OFFSET TIMESTAMP KEY FILENAME`. Raises NotShown."""
-        offset, timestamp, key, filename = (text.split(" ", 3) + [""] * 3)[:4]
-        return cls._of(filename, offset, timestamp, key, "")
+        return cls._of(*(text.split(" ", 3) + [""] * 3)[:4])
 
     @classmethod
-    def _of(cls, filename: str, offset: str, timestamp: str, key: str, url: str) -> "Place":
+    def _of(cls, offset: str, timestamp: str, key: str, filename: str) -> "Place":
         if not _OFFSET.fullmatch(offset) or int(offset) >= 1 << 63:
             raise NotShown("The offset of the record was refused.", "An offset is a number of bytes below 2^63.")
-        if not _TIMESTAMP.fullmatch(timestamp) or not (key or url) or " " in key or not filename:
+        if not _TIMESTAMP.fullmatch(timestamp) or not key or " " in key or not filename:
             raise NotShown(
                 "The link to the record was refused.", "It has the URL key of the capture, its timestamp of 14 digits and its file name."
             )
-        return cls(filename, int(offset), timestamp, key, url)
+        return cls(filename, int(offset), timestamp, key)
 
     def capture(self, collection: Collection) -> Capture:
         """Returns the line of an index that names the record. Raises NotShown if there is none."""
-        ask, key = collection.captures, self.key
-        if not key:
-            first = History(ask, url=self.url).first()
-            key = first.urlkey if first else ""
-        none = ("-",) * 4
-        place = Capture(key, self.timestamp, *none, None, self.offset, self.filename)
-        found = capture_at(ask, place) if key else None
+        place = Capture(self.key, self.timestamp, "-", "-", "-", "-", None, self.offset, self.filename)
+        found = capture_at(collection.captures, place)
         if found is None:
             raise NotShown("There is no such record.", "No index of the collection names a record at this place.", 404)
         return found
@@ -104,7 +93,7 @@ def original_of(ask: Ask, head: Head) -> Optional[Capture]:
 
 def before(ask: Ask, url: str, head: Head) -> Optional[Capture]:
     """Returns the last capture before a record that has a payload of a URL, or None."""
-    timestamp = timestamp_of(head.field("WARC-Date") or "")
+    timestamp = recorded(head)
     history = History(ask, url=url).where("mimetype", REVISIT, "isnot").where("statuscode", "304", "isnot")
     return history.before(timestamp) if timestamp else None
 

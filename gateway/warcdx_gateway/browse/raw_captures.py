@@ -3,7 +3,7 @@ import contextlib
 import hashlib
 import re
 from collections.abc import Callable, Generator, Iterator
-from dataclasses import dataclass, replace
+from dataclasses import dataclass, field, replace
 from typing import Optional
 
 from werkzeug.wrappers import Request, Response
@@ -53,22 +53,21 @@ class Window:
     page: Callable[[reading.Read], Generator[bytes, None, None]]
 
 
+@dataclass
 class RawCapture:
     """The answer to a request for a capture. What it has to close goes from `stack` to it.
 
     With a `window`, a page of HTML is shown there, as far as these pages show one. Other texts are plain ones then.
+    `states` are those of what is read: of the capture, and of its original.
     """
 
-    def __init__(
-        self, request: Request, collection: Collection, ask: Ask, capture: Capture, stack: contextlib.ExitStack, window: Optional[Window]
-    ) -> None:
-        self._window = window
-        self._request = request
-        self._collection = collection
-        self._ask = ask
-        self._capture = capture
-        self._states: list[str] = []  # of what is read: the capture, and its original
-        self._stack = stack
+    request: Request
+    collection: Collection
+    ask: Ask
+    capture: Capture
+    stack: contextlib.ExitStack
+    window: Optional[Window]
+    states: list[str] = field(default_factory=list)
 
     def response(self, fields: dict[str, str], location_of: Callable[[str], str]) -> Response:
         """Returns the answer with further fields.
@@ -81,9 +80,9 @@ class RawCapture:
             return Response(f"{error}\n", error.status)
 
     def _response(self, fields: dict[str, str], location_of: Callable[[str], str]) -> Response:
-        record = self._opened(self._capture)
+        record = self._opened(self.capture)
         record, head = self._with_payload(record)
-        window, read = self._window, reading.Read(record.head, head, record.length, reading.UNREAD)
+        window, read = self.window, reading.Read(record.head, head, record.length, reading.UNREAD)
         status = 200 if head is None else sent_status(head.status or 200)
         target = head.field("Location") if head is not None and 300 <= status < 400 else None
         location = location_of(target) if target is not None else ""
@@ -91,35 +90,34 @@ class RawCapture:
             return responses.redirect(window.url, 302)
         if window is not None and read.is_html and not location:
             return self._shown(window, record, read, fields, status)
-        what, coding = coded(self._request, record, self._collection.work)
+        what, coding = coded(self.request, record, self.collection.work)
         headers = {**responses.payload_headers(), **fields, **coding}
         if location:
             headers["Location"] = location
         size = record.stored_length if what == "stored" else None
-        pieces = reading.Download(self._stack, record, what, self._collection.work)
-        held = pieces.held(MOST_HELD)
-        response = Response(pieces if held is None else held, status, headers)
+        pieces = reading.pieces_of(self.stack, record, what, self.collection.work)
+        response = streamed(pieces, [*headers.items()], self.collection.work, status, MOST_HELD)
         kind = visible(read.content_type) if window is None else window_type(read)
         response.headers["Content-Type"] = kind or OTHER_TYPE
         if head is not None:
             response.headers.add(ARCHIVED + "Status-Line", visible(head.line)[:MOST_LINE])
         for name, value in archived_fields(head.fields if head else ()):
             response.headers.add(ARCHIVED + name, value)
-        response.set_etag(tag_of(what, *self._states))
-        return conditional(response, self._request, size if held is None else len(held))
+        response.set_etag(tag_of(what, *self.states))
+        return conditional(response, self.request, size)
 
     def _opened(self, capture: Capture) -> RecordStream:
-        self._states.append(reading.state_of(self._collection, capture))
-        return self._stack.enter_context(reading.opened(self._collection, capture))
+        self.states.append(reading.state_of(self.collection, capture))
+        return self.stack.enter_context(reading.opened(self.collection, capture))
 
     def _shown(self, window: Window, record: RecordStream, read: reading.Read, fields: dict[str, str], status: int) -> Response:
         """Returns a page with its images and style sheets."""
-        payload = reading.shown_payload(record, self._collection.work)
+        payload = reading.shown_payload(record, self.collection.work)
         if payload.fault and not payload.content:
             raise NotShown("The payload can't be unpacked.", payload.fault, 422)
-        self._stack.close()
+        self.stack.close()
         headers = {**responses.payload_headers(), **fields, "Content-Type": reading.HTML_SHOWN}
-        return streamed(window.page(replace(read, payload=payload)), [*headers.items()], self._collection.work, status)
+        return streamed(window.page(replace(read, payload=payload)), [*headers.items()], self.collection.work, status)
 
     def _with_payload(self, record: RecordStream) -> tuple[RecordStream, Optional[HttpHead]]:
         """Returns the record with the payload, and the head that is of it.
@@ -131,9 +129,9 @@ class RawCapture:
         url = without_brackets(found.field("WARC-Target-URI") or "")
         is_answer = head is not None and head.status == NOT_MODIFIED
         if found.kind == "revisit":
-            original = original_of(self._ask, found)
+            original = original_of(self.ask, found)
         elif is_answer:
-            original = before(self._ask, url, found)
+            original = before(self.ask, url, found)
         else:
             return record, head
         is_whole = is_answer or is_unmodified(found) or head is None
@@ -144,7 +142,7 @@ class RawCapture:
             if record.http is None or record.http.status != NOT_MODIFIED:
                 return record, record.http if is_whole else head
             # Its index line doesn't say so, as where the head isn't quite one.
-            original = before(self._ask, url, record.head)
+            original = before(self.ask, url, record.head)
         why = "No index has a capture with its payload."
         raise NotShown("The original of the revisit isn't here.", why, 404)
 
@@ -172,7 +170,7 @@ def tag_of(what: str, *states: str) -> str:
 
 
 def conditional(response: Response, request: Request, size: Optional[int]) -> Response:
-    """Returns an answer by the conditions of its request, and if it has `size` bytes by its range.
+    """Returns an answer by the conditions of its request, and by its range if it has `size` bytes, or isn't streamed.
 
     RFC 9110, sections 13 and 14: only what has status 200 has them, and only GET has a range.
     """
@@ -186,6 +184,7 @@ def conditional(response: Response, request: Request, size: Optional[int]) -> Re
     if has_tag(request.headers.get("If-None-Match", ""), tag):
         response.close()
         return Response(b"", NOT_MODIFIED, response.headers)
+    size = size if response.is_streamed else len(response.get_data())
     if size is None:
         return response
     response.content_length = size

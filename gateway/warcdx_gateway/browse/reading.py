@@ -1,7 +1,7 @@
 """Reads records for these pages, with bounds on what is read, unpacked and held."""
 import contextlib
 import os
-from collections.abc import Iterator
+from collections.abc import Generator, Iterator
 from dataclasses import dataclass, replace
 from typing import Optional
 
@@ -196,67 +196,22 @@ def bounded(limits: Limits, work: Work) -> Limits:
     return replace(limits, seconds=work.seconds(limits.seconds or 0))
 
 
-def _pieces_of(record: RecordStream, what: str, work: Work) -> Iterator[bytes]:
-    if what == "record":
-        yield from record.whole()
-    elif what == "payload":
-        yield from record.payload(bounded(DOWNLOADED, work))
-    else:
-        yield from record.stored_payload(bounded(DOWNLOADED, work))
+def pieces_of(stack: contextlib.ExitStack, record: RecordStream, what: str, work: Work) -> Generator[bytes, None, None]:
+    """Yields the pieces of a record, of its payload, or of the payload as it is stored with its codings.
 
-
-class Download:
-    """The pieces of a record, of its payload, or of the payload as it is stored with its codings.
-
-    What `stack` has to close is closed with it. The constructor raises NotShown, and so does the
-    iterator, in place of the last piece, if the record isn't whole or its archive is damaged there.
+    What `stack` has to close is closed with it. Raises NotShown, in place of the last piece, if the record isn't whole or
+    its archive is damaged there.
     """
-
-    def __init__(self, stack: contextlib.ExitStack, record: RecordStream, what: str, work: Work) -> None:
-        self.head = record.head
-        self.size = record.size if what == "record" else None
-        if what == "payload" and not (record.http and record.http.content_codings):
-            self.size = record.stored_length
-        self._work = work
-        self._pieces = _pieces_of(record, what, work)
-        self._ahead = self._next()
-        self._stack = stack.pop_all()
-
-    def held(self, most: int) -> Optional[bytes]:
-        """Returns the pieces if they have at most `most` bytes. If not, they stay to be read."""
-        held = bytearray()
-        while len(held) <= most:
-            self._work.expect_slot(len(held))
-            piece = next(self, b"")
-            if not piece:
-                return bytes(held)
-            held += piece
-        self._ahead = bytes(held) + self._ahead
-        return None
-
-    def __iter__(self) -> Iterator[bytes]:
-        return self
-
-    def __next__(self) -> bytes:
-        piece = self._ahead
-        if piece:
-            self._ahead = self._next()
-        if not self._ahead:
-            self._stack.close()  # which raises why the record has ended, if that is too early
-        if not piece:
-            raise StopIteration
-        return piece
-
-    def close(self) -> None:
-        """Ends what is still read, after a client has left."""
-        with contextlib.suppress(NotShown):
-            self._stack.close()
-
-    def _next(self) -> bytes:
-        self._work.go_on()
+    ahead = b""
+    with stack.pop_all():  # which raises why the record has ended, if that is too early
         try:
-            return next(self._pieces, b"")
+            read = {"payload": record.payload, "stored": record.stored_payload}.get(what)
+            for piece in record.whole() if read is None else read(bounded(DOWNLOADED, work)):
+                work.go_on()
+                if ahead:
+                    yield ahead
+                ahead = piece
         except Unreadable as error:
-            self._work.go_on()
-            why = reason_of(error)
-            raise NotShown("The payload can't be unpacked.", why, 422) from error
+            work.go_on()
+            raise NotShown("The payload can't be unpacked.", reason_of(error), 422) from error
+    yield ahead

@@ -11,7 +11,7 @@ from warcdx.record_digests import Verdict, Verdicts
 from ..collection import Collection
 from ..history import History
 from . import dates, reading
-from .layout import collection_page, row, table
+from .layout import card, collection_page, row, table
 from .markup import Child, Markup, cut, element, followed, joined, link
 from .places import original_of, record_link
 from .reading import MOST_SHOWN, MOST_VERIFIED, Read
@@ -57,7 +57,7 @@ def record_page(collection: Collection, capture: Capture) -> Response:
         _original(original) if is_revisit else None,
         _payload(record, capture),
         _facts(record, capture),
-        element("section", element("h2", "Digests"), _verdicts(verdicts), class_="card"),
+        card("Digests", _verdicts(verdicts)),
         _fields("WARC headers", head.fields),
         _http(record),
         search=search,
@@ -85,7 +85,7 @@ def _kind(head: Head) -> str:
 
 
 def _when(head: Head) -> str:
-    timestamp = dates.timestamp_of(head.field("WARC-Date") or "")
+    timestamp = dates.recorded(head)
     return f" of {dates.in_words(timestamp)}" if timestamp else ""
 
 
@@ -95,7 +95,7 @@ def target_of(head: Head) -> str:
 
 
 def _facts(record: Read, capture: Capture) -> Markup:
-    timestamp = dates.timestamp_of(record.head.field("WARC-Date") or "")
+    timestamp = dates.recorded(record.head)
     when = dates.in_words(timestamp) if timestamp else "no date"
     machine_time = dates.machine_time(timestamp) if timestamp else None
     archive = element("bdi", element("code", capture.filename))
@@ -147,9 +147,7 @@ def _payload(record: Read, capture: Capture) -> Markup:
         shown.append(_frame(record, capture))
     elif size:
         words += f" It isn't shown, for its type is {kind}. It can be saved."
-    return element(
-        "section", element("h2", "Payload"), element("p", words), shown, _downloads(capture, bool(size)), class_="card", id="payload"
-    )
+    return card("Payload", element("p", words), shown, _downloads(capture, bool(size)), id="payload")
 
 
 def _frame(record: Read, capture: Capture) -> Markup:
@@ -193,7 +191,7 @@ def _fields(words: str, fields: Sequence[tuple[str, str]]) -> Markup:
         rows.append(row(names, element("code", shown[0]) if name else "(first line)", element("code", shown[1])))
     rest = len(fields) - len(rows)
     more = element("p", f"{dates.many(rest, 'field')} more: save the record to see all.") if rest else None
-    return element("section", element("h2", words), table(words, names, rows, "fields"), more, class_="card")
+    return card(words, table(words, names, rows, "fields"), more)
 
 
 def _original(original: Optional[Capture]) -> Markup:
@@ -202,4 +200,4 @@ def _original(original: Optional[Capture]) -> Markup:
     else:
         when = followed(dates.in_words(original.timestamp), record_link(original))
         words = joined("The payload is that of the capture of ", when, ", which has the same digest.")
-    return element("section", element("h2", "The original of this revisit"), element("p", words), class_="card")
+    return card("The original of this revisit", element("p", words))

@@ -9,6 +9,7 @@ from werkzeug.routing import Rule
 from werkzeug.wrappers import Request, Response
 
 from warcdx import Error, Fault, Refused, ReplyTooLate, ReplyTooLong
+from warcdx.record import Head
 
 from ..application import Gateway, rule
 from ..collection import Collection
@@ -18,7 +19,6 @@ from . import dates, embedding, layout, reading, responses
 from .compare_page import compare_page
 from .places import Place
 from .raw_captures import conditional, tag_of
-from .reading import Download
 from .record_page import record_page, target_of
 from .search_page import captures_page, search_page
 from .searching import NotShown, Search
@@ -160,19 +160,21 @@ def download(collection: Collection, request: Request) -> Response:
     state = reading.state_of(collection, capture)
     with contextlib.ExitStack() as stack:
         record = stack.enter_context(reading.opened(collection, capture))
-        opened = Download(stack, record, what, collection.work)
-    headers = responses.attachment_headers(_file_name(opened, place, what))
-    response = Response(opened, 200, headers, content_type="application/octet-stream")
+        size = record.size if what == "record" else None
+        if what == "payload" and not (record.http and record.http.content_codings):
+            size = record.stored_length
+        headers = {**responses.attachment_headers(_file_name(record.head, place, what)), "Content-Type": "application/octet-stream"}
+        response = streamed(reading.pieces_of(stack, record, what, collection.work), [*headers.items()], collection.work)
     response.set_etag(tag_of(what, state))
-    return conditional(response, request, opened.size)
+    return conditional(response, request, size)
 
 
-def _file_name(download: Download, place: Place, what: str) -> str:
+def _file_name(head: Head, place: Place, what: str) -> str:
     """Returns a name for the file: that of the archive with the offset, or the end of the URL."""
     if what == "record":
         return f"{place.filename}-{place.offset}.warc"
-    path = target_of(download.head).partition("?")[0].partition("#")[0].rstrip("/")
-    timestamp = dates.timestamp_of(download.head.field("WARC-Date") or "") or str(place.offset)
+    path = target_of(head).partition("?")[0].partition("#")[0].rstrip("/")
+    timestamp = dates.recorded(head) or str(place.offset)
     return f"{timestamp}-{responses.file_name(path)}"
 
 

@@ -6,7 +6,7 @@ from werkzeug.wrappers import Response
 from ..collection import Collection, Source
 from . import calendars, dates, lists
 from .counting import Counts, count
-from .layout import collection_page
+from .layout import card, collection_page
 from .markup import Child, Markup, element, joined
 from .searching import Search
 
@@ -35,20 +35,10 @@ def search_page(collection: Collection, search: Search, year: str, after: str) -
     content: list[Child] = [
         heading(search),
         element("p", caption(counts, search)),
-        _years(counts, search, chosen),
+        calendars.years_card(counts, search, chosen),
         element("div", _year(counts, search, chosen) if chosen else None, listed, id="year", class_="year-and-list"),
     ]
     return collection_page(collection, search.shown, *content, search=search)
-
-
-def _years(counts: Counts, search: Search, chosen: str) -> Markup:
-    return element(
-        "section",
-        element("h2", "Years"),
-        calendars.draw_years(counts, search, chosen),
-        calendars.years_table(counts, search),
-        class_="card",
-    )
 
 
 def _year(counts: Counts, search: Search, chosen: str) -> Markup:
@@ -59,7 +49,7 @@ def _year(counts: Counts, search: Search, chosen: str) -> Markup:
         days = {day: number for day, number in counts.dated.items() if day.year == year}
         drawn = [calendars.legend(days), calendars.draw_year(year, counts, search)]
         drawn.append(calendars.days_table(year, counts, search))
-    return element("section", element("h2", words), drawn, class_="card")
+    return card(words, drawn)
 
 
 def captures_page(collection: Collection, search: Search, after: str) -> Response:
@@ -107,6 +97,10 @@ def nothing(search: Search) -> Markup:
     if search.is_single and search.typed:
         for match, words in (("prefix", "Search for URLs that begin with it"), ("host", "Search the whole host")):
             hints.append(element("li", element("a", words, href=search.ever().link("search", match=match))))
+    if search.is_single and "*" in search.typed:
+        hints.append(
+            element("li", "A * stands for what follows it only at the end of a URL, and for the hosts below one only as *. in front.")
+        )
     when = ""
     if search.first or search.last:
         first, last = (dates.typed(each) for each in (search.first, search.last))

@@ -18,14 +18,13 @@ MATCHES = {
 _DIGITS = re.compile("[0-9]{1,14}")
 
 
+@dataclass(eq=False)
 class NotShown(Exception):
     """Why a page isn't shown: what was refused and why, in words, and the status of the answer."""
 
-    def __init__(self, what: str, why: str, status: int = 400) -> None:
-        super().__init__(what, why)
-        self.what = what
-        self.why = why
-        self.status = status
+    what: str
+    why: str
+    status: int = 400
 
     def __str__(self) -> str:
         return f"{self.what} {self.why}"

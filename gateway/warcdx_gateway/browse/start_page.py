@@ -15,7 +15,7 @@ from ..generation import open_regular
 from ..history import quoted
 from . import calendars, dates
 from .counting import Counts
-from .layout import collection_page, row, table
+from .layout import card, collection_page, row, table
 from .markup import Child, cut, element, followed, link
 
 MOST_ROWS = 20  # of a table
@@ -70,11 +70,7 @@ def _summary(summary: Mapping[str, Any]) -> list[Child]:
     years = {year: count for year, count in counted.items() if _YEAR.fullmatch(year)}
     if years:
         counts = Counts(years=Counter(years), total=sum(years.values()))
-        found.append(
-            element(
-                "section", element("h2", "Years"), calendars.draw_years(counts, None), calendars.years_table(counts, None), class_="card"
-            )
-        )
+        found.append(calendars.years_card(counts, None))
     tables = [
         _table(words, one, _counts(summary.get(name)))
         for name, words, one in (("hosts", "Hosts", "Host"), ("types", "Types", "Type"), ("statuses", "Statuses", "Status"))
@@ -101,7 +97,7 @@ def _table(words: str, one: str, counts: Mapping[str, int]) -> Child:
     names = {"value": one, "count": "Captures"}
     most = sorted(counts.items(), key=lambda each: -each[1])[:MOST_ROWS]
     rows = (row(names, _host(value) if one == "Host" else cut(value, _MOST_NAME), f"{count:,}") for value, count in most)
-    return element("section", element("h2", words), table(words, names, rows, "counts"), class_="card")
+    return card(words, table(words, names, rows, "counts"))
 
 
 def _host(host: str) -> Child:
@@ -123,14 +119,9 @@ def _damaged(value: object) -> Child:
             texts = (f"{field:,}" if type(field) is int else str(field) for field in fields)
             rows.append(row(names, *(element("bdi", cut(text, _MOST_NAME)) for text in texts)))
     rest = len(value) - MOST_DAMAGED
-    return element(
-        "section",
-        element("h2", "Damaged archives"),
-        element("p", "Captures after the damage of an archive aren't in the collection."),
-        table("Damaged archives", names, rows),
-        element("p", f"{dates.many(rest, 'archive')} more.") if rest > 0 else None,
-        class_="card",
-    )
+    what = element("p", "Captures after the damage of an archive aren't in the collection.")
+    more = element("p", f"{dates.many(rest, 'archive')} more.") if rest > 0 else None
+    return card("Damaged archives", what, table("Damaged archives", names, rows), more)
 
 
 def some_hosts(collection: Collection) -> list[str]:
@@ -155,7 +146,7 @@ def _some_hosts(hosts: list[str]) -> list[Child]:
         return [element("p", "The collection has no captures.")]
     words = "Hosts" if len(hosts) < MOST_ROWS else "Some of the hosts"
     listed = element("ul", (element("li", _host(host)) for host in hosts), class_="hosts")
-    return [element("section", element("h2", words), listed, class_="card")]
+    return [card(words, listed)]
 
 
 def _files(collection: Collection) -> Child:

@@ -99,8 +99,9 @@ docs/CDXJ.md has the rules.
 
 TYPES are one or more of these, separated by commas, none twice: response,
 resource, revisit, conversion, metadata. Without --types, response, resource and
-revisit records are indexed. --types follows the command's name directly, and
---name follows the command's name, or --types and its TYPES.
+revisit records are indexed, and so none of a WET or WAT file: their records are
+conversions or metadata. --types follows the command's name directly, and --name
+follows the command's name, or --types and its TYPES.
 
 An archive's file name in the index is the part of its argument after the last
 /, 1 to 255 bytes. For standard input it is that part of NAME, or - without

@@ -136,8 +136,9 @@ bytes of the file. 'warcdx-gz get' writes the record at an offset.
 
 TYPES are one or more of these, separated by commas, none twice: response,
 resource, revisit, conversion, metadata. Without --types, response, resource and
-revisit records are indexed. --types follows the command's name directly, and
---name follows the command's name, or --types and its TYPES.
+revisit records are indexed, and so none of a WET or WAT file: their records are
+conversions or metadata. --types follows the command's name directly, and --name
+follows the command's name, or --types and its TYPES.
 
 An archive's file name in the index is the part of its argument after the last
 /, 1 to 255 bytes. For standard input it is that part of NAME, or - without
