@@ -86,7 +86,11 @@ class Archive:
         if name is None:
             write_output(output, *command, self.path)
             return
-        with self._opened() as file:
+        try:
+            file = open(self.path, "rb", buffering=0)
+        except (OSError, ValueError) as error:
+            raise cannot_open(self.path, getattr(error, "errno", None)) from error
+        with file:
             try:
                 write_output(output, *command, "--name", operand(name), _INPUT, stdin=file.fileno())
             except Fault as found:
@@ -247,12 +251,6 @@ class Archive:
             replaced.advice = "another file has taken its place while it was read"
             raise replaced
 
-    def _opened(self) -> IO[bytes]:
-        try:
-            return open(self.path, "rb", buffering=0)
-        except (OSError, ValueError) as error:
-            raise cannot_open(self.path, getattr(error, "errno", None)) from error
-
     def _lines(self, command: str, pattern: "re.Pattern[bytes]") -> Iterator[tuple[str, ...]]:
         """Yields the groups of each line of a report."""
         with running(self._program, command, self.path, good=(0, FAULTY)) as output:
@@ -292,10 +290,7 @@ def open_archive(path: Path, *, program: str = "warcdx") -> Archive:
     What can be read only once, such as a pipe, isn't looked at. `warcdx-gz` reads it, in either form.
     """
     name = operand(path)
-    try:
-        first = None if _is_read_once(name) else _first_bytes(name)
-    except ValueError as error:
-        raise cannot_open(name, None) from error
+    first = None if _is_read_once(name) else _first_bytes(name)
     if first is None or first and MAGIC.startswith(first):
         return CompressedArchive(path, program=program)
     return Archive(path, program=program)
@@ -320,8 +315,8 @@ def _first_bytes(path: str) -> Optional[bytes]:
     """Returns the first bytes of a file. Raises CannotOpen or Read."""
     try:
         file = open_at_once(path)
-    except OSError as error:
-        raise cannot_open(path, error.errno) from error
+    except (OSError, ValueError) as error:
+        raise cannot_open(path, getattr(error, "errno", None)) from error
     with file:
         try:
             return file.read(len(MAGIC))  # None if a pipe has taken its place

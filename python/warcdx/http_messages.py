@@ -36,10 +36,7 @@ class WithFields:
         """Returns the value of the first field of a name, in any case, or None."""
         expect_type("the name of a field", name, str, "a text")
         wanted = name.lower()
-        for found, value in self.fields:
-            if found.lower() == wanted:
-                return value
-        return None
+        return next((value for found, value in self.fields if found.lower() == wanted), None)
 
 
 def unfolded(lines: Sequence[str]) -> list[str]:

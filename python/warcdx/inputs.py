@@ -1,12 +1,13 @@
 """The files that commands read, of which some can be read only once."""
 import contextlib
+import shutil
 import sys
 from collections.abc import Iterator
 from typing import IO
 
 from .faults import cannot_open
 from .outputs import STANDARD
-from .temporary import path_of, temporary_copy
+from .temporary import path_of, unnamed_file
 
 
 @contextlib.contextmanager
@@ -32,7 +33,10 @@ def read_again(name: str, is_held: bool = False) -> Iterator[str]:
     with contextlib.ExitStack() as stack:
         file = stack.enter_context(opened(name))
         if name == STANDARD or not file.seekable():
-            yield stack.enter_context(temporary_copy(file))
+            copy = stack.enter_context(unnamed_file())
+            shutil.copyfileobj(file, copy)
+            copy.flush()
+            yield path_of(copy)
         elif is_held:
             yield path_of(file)
         else:

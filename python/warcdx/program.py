@@ -121,7 +121,7 @@ class Process:
     stdin: Optional[IO[bytes]] = None
     stdout: IO[bytes]
 
-    def __init__(self, command: tuple[str, ...], stdin: Optional[int] = None, descriptors: Iterable[int] = ()) -> None:
+    def __init__(self, command: tuple[str, ...], stdin: Optional[int] = None, descriptors: tuple[int, ...] = ()) -> None:
         """Starts the program. Its standard input is this descriptor, or PIPE, or that of this process. It has the others too.
 
         Raises ProgramMissing, ProgramError if there are too many files or processes, or MemoryError.
@@ -138,11 +138,10 @@ class Process:
                     reading, self.stdin = _pipe(given, kept)
                     stdin = reading.fileno()
                 streams = (stdin, output.fileno(), self._said.fileno())
-                kept_open = list(descriptors)
                 actions: list[tuple[int, ...]] = []
                 actions += [(os.POSIX_SPAWN_DUP2, each, number) for number, each in enumerate(streams) if each is not None]
-                actions += [(os.POSIX_SPAWN_CLOSE, each) for each in _inherited() if each not in kept_open]
-                actions += [(os.POSIX_SPAWN_DUP2, each, each) for each in kept_open]  # so it stays open
+                actions += [(os.POSIX_SPAWN_CLOSE, each) for each in _inherited() - {*descriptors}]
+                actions += [(os.POSIX_SPAWN_DUP2, each, each) for each in descriptors]  # so it stays open
                 self.pid = os.posix_spawnp(
                     self.path, command, os.environ, file_actions=actions, setsigmask=(), setsigdef=(signal.SIGPIPE, signal.SIGXFSZ)
                 )
@@ -231,13 +230,13 @@ class Process:
             self.end()
 
 
-def _inherited() -> list[int]:
+def _inherited() -> set[int]:
     """Returns the descriptors that a program would have too besides the standard streams, such as those of who started this process."""
-    found = list[int]()
+    found = set[int]()
     for number in map(int, os.listdir("/proc/self/fd")):
         with contextlib.suppress(OSError):  # it is closed again, as that of the list
             if number > 2 and os.get_inheritable(number):
-                found.append(number)
+                found.add(number)
     return found
 
 

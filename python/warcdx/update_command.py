@@ -134,6 +134,12 @@ def removal_of(text: str) -> Removal:
     return Removal(int(found[1]), bool(found[2]))
 
 
+def program_of(given: argparse.Namespace) -> str:
+    """Returns the program that the tasks run. On a cluster, a name without `/` is that of a program on the worker's PATH."""
+    program = find_packed_program(given.program)
+    return PACKED if given.scheduler and os.sep not in given.program else program
+
+
 def update(given: argparse.Namespace, output: BinaryIO) -> int:
     settings = Settings(os.path.realpath(given.folder), given.recursive, ",".join(given.types))
     is_folder = not given.single and (os.path.isdir(given.index) or given.index.endswith((".d", "/")))
@@ -141,9 +147,7 @@ def update(given: argparse.Namespace, output: BinaryIO) -> int:
     single = None if is_folder else Single(store, given.index)
     expect_usable(given.folder, settings, store)
     expect_folder(store.folder)
-    program = find_packed_program(given.program)
-    if given.scheduler and os.sep not in given.program:
-        program = PACKED  # which is on the PATH of the workers
+    program = program_of(given)
     progress = Silent() if given.quiet else bar_on_terminal() or Lines(NAME)
     work = Update(settings, store, single, program, Merging(given.ratio, given.compact), progress)
     if given.dry_run:

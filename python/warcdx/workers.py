@@ -105,22 +105,17 @@ class _Workers:
                 break
             self._watch.begin(self._started)
             with blocked():
-                self._start(self._started)
+                part, (reading_end, writing_end) = tempfile.TemporaryFile(buffering=0), os.pipe()
+                self._parts[self._started], self._said[self._started] = part, b""
+                self._errors.register(reading_end, selectors.EVENT_READ, self._started)
+                try:
+                    identifier = os.fork()
+                    if not identifier:
+                        self._work(self._started, part.fileno(), writing_end)
+                finally:
+                    os.close(writing_end)
+                self._running[self._started] = identifier
                 self._started += 1
-
-    def _start(self, number: int) -> None:
-        """Starts the process of a work, whose output goes to a file, and whose errors come through a pipe."""
-        part = self._parts[number] = tempfile.TemporaryFile(buffering=0)
-        reading_end, writing_end = os.pipe()
-        self._errors.register(reading_end, selectors.EVENT_READ, number)
-        self._said[number] = b""
-        try:
-            identifier = os.fork()
-            if not identifier:
-                self._work(number, part.fileno(), writing_end)
-        finally:
-            os.close(writing_end)
-        self._running[number] = identifier
 
     def _wait(self) -> None:
         """Reads what processes write to standard error, until one or more have written something or have ended."""
