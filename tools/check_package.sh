@@ -44,17 +44,19 @@ link=/etc/systemd/system/multi-user.target.wants/$unit
 
 # make_system NAME OPTION..: sets `system` to a new system, which debootstrap makes with these options.
 make_system() {
-    local cache=$caches/$1
+    local cache=$caches/$1 new
     system=$work/$1
     if [ ! -d "$cache" ]; then
         mkdir -p "${cache%/*}"
-        rm -rf --one-file-system "$cache.new"
-        debootstrap --variant=minbase "${@:2}" bookworm "$cache.new" > "$work/log" || {
+        new=$(mktemp -d "$cache.XXXXXX") # another part may make it at the same time
+        debootstrap --variant=minbase "${@:2}" bookworm "$new" > "$work/log" || {
+            rm -rf --one-file-system "$new"
             cat "$work/log"
             echo "$script: debootstrap has failed, so nothing was checked" >&2
             exit 77
         }
-        mv "$cache.new" "$cache"
+        chmod 755 "$new"
+        mv -T "$new" "$cache" 2> /dev/null || rm -rf --one-file-system "$new"
     fi
     cp --archive "$cache" "$system"
     install -d --owner=1000 --group=1000 "$system$home"

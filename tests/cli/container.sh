@@ -37,16 +37,18 @@ builder() { # ARGUMENT..: buildah, whose images are here
 
 # Makes the image on which the Containerfile is built.
 make_base() {
-    local container
+    local container new
     if [ ! -d "$base" ]; then
         mkdir -p "${base%/*}"
-        rm -rf --one-file-system "$base.new"
-        debootstrap --variant=minbase bookworm "$base.new" > "$work/log" || {
+        new=$(mktemp -d "$base.XXXXXX") # another part may make it at the same time
+        debootstrap --variant=minbase bookworm "$new" > "$work/log" || {
+            rm -rf --one-file-system "$new"
             cat "$work/log"
             echo "$script: debootstrap has failed, so nothing was checked" >&2
             exit 77
         }
-        mv "$base.new" "$base"
+        chmod 755 "$new"
+        mv -T "$new" "$base" 2> /dev/null || rm -rf --one-file-system "$new"
     fi
     container=$(builder from scratch)
     cp --archive "$base/." "$(builder mount "$container")"
